@@ -1,6 +1,6 @@
 //! Databases in memory, and what is asked of them.
 
-use sqlite::{Connection, MemStore};
+use sqlite::{Alter, Connection};
 use std::alloc::Global;
 use std::process::Abort;
 use std::test::Fail;
@@ -16,14 +16,14 @@ fn same_number(rt: &impl Abort, found: i64, wanted: i64, sql: &str) {
     assert!(rt; found == wanted, "{found} at {sql}");
 }
 
-fn number(conn: &mut Connection<MemStore>, sql: &str) -> Result<i64, Fail> {
+fn number<S: Alter>(conn: &mut Connection<S>, sql: &str) -> Result<i64, Fail> {
     Ok(conn.query_row(sql, &[])?.get(0)?)
 }
 
 /// Whether each query gives its number.
-pub(crate) fn count_all(
+pub(crate) fn count_all<S: Alter>(
     rt: &impl Abort,
-    conn: &mut Connection<MemStore>,
+    conn: &mut Connection<S>,
     counts: &[Count],
 ) -> Result<(), Fail> {
     for (sql, wanted) in counts {
@@ -33,9 +33,9 @@ pub(crate) fn count_all(
 }
 
 /// The rows that the query gives.
-pub(crate) fn answer(
+pub(crate) fn answer<S: Alter>(
     alloc: Global,
-    conn: &mut Connection<MemStore>,
+    conn: &mut Connection<S>,
     sql: &str,
 ) -> Result<String, Fail> {
     let rows = conn.query_all(sql, &[])?;

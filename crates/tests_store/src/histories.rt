@@ -9,6 +9,7 @@ use crate::vaults::Spool;
 use delivery_book::DeliveryBook;
 use relay_types::Moment;
 use spool::Books;
+use sqlite::Alter;
 use std::alloc::Global;
 use std::process::Abort;
 use std::test::Fail;
@@ -19,15 +20,14 @@ const DRAWS: u32 = 120;
 /// The books of a history, the moments of its events and attempts, each beside its delivery, and the vault to which it
 /// is committed.
 #[derive(Drop)]
-struct Both {
+struct Both<S: Alter> {
     books: Books,
     moments: Vec<(u64, u64)>,
-    spool: Spool,
+    spool: Spool<S>,
 }
 
-fn begun(alloc: Global) -> Result<Both, Fail> {
+fn begun<S: Alter + Drop>(alloc: Global, spool: Spool<S>) -> Result<Both<S>, Fail> {
     let books = empty(alloc)?;
-    let spool = Spool::new(alloc, None)?;
     Ok(Both {
         books,
         moments: Vec::new(alloc),
@@ -56,11 +56,11 @@ fn clock_of(book: &DeliveryBook, moments: &[(u64, u64)]) -> Result<Moment, Fail>
 }
 
 /// Draws a record, and commits what waits in one case of four. Whether it is written.
-fn go_on(
+fn go_on<S: Alter>(
     rt: &impl Abort,
     alloc: Global,
     numbers: &mut Numbers,
-    both: &mut Both,
+    both: &mut Both<S>,
 ) -> Result<bool, Fail> {
     if let Some(entry) = draw(numbers, &both.books)? {
         note(&mut both.moments, both.books.records, entry)?;
@@ -70,7 +70,12 @@ fn go_on(
     Ok(numbers.below(4) > 0 || both.spool.is_written())
 }
 
-fn draw_all(rt: &impl Abort, alloc: Global, first: u64, both: &mut Both) -> Result<bool, Fail> {
+fn draw_all<S: Alter>(
+    rt: &impl Abort,
+    alloc: Global,
+    first: u64,
+    both: &mut Both<S>,
+) -> Result<bool, Fail> {
     let mut numbers = Numbers { last: first };
     let mut is_written = true;
     for _ in 0..DRAWS {
@@ -79,15 +84,20 @@ fn draw_all(rt: &impl Abort, alloc: Global, first: u64, both: &mut Both) -> Resu
     Ok(both.spool.is_written() && is_written)
 }
 
-fn is_same(alloc: Global, both: &mut Both) -> Result<bool, Fail> {
+fn is_same<S: Alter>(alloc: Global, both: &mut Both<S>) -> Result<bool, Fail> {
     both.books.clock = clock_of(&both.books.deliveries, &both.moments)?;
     let loaded = both.spool.books(alloc)?;
     same_books(&both.books, &loaded)
 }
 
 /// Whether a history that is drawn from this number is loaded as it was staged.
-fn is_loaded(rt: &impl Abort, alloc: Global, first: u64) -> Result<bool, Fail> {
-    let mut both = begun(alloc)?;
+fn is_loaded<S: Alter + Drop>(
+    rt: &impl Abort,
+    alloc: Global,
+    first: u64,
+    spool: Spool<S>,
+) -> Result<bool, Fail> {
+    let mut both = begun(alloc, spool)?;
     match draw_all(rt, alloc, first, &mut both) {
         Ok(true) => is_same(alloc, &mut both),
         told => told,
@@ -97,7 +107,8 @@ fn is_loaded(rt: &impl Abort, alloc: Global, first: u64) -> Result<bool, Fail> {
 #[test]
 fn two_hundred_histories_are_loaded(rt: HostRuntime) -> Result<(), Fail> {
     for first in 0..200usize {
-        holds(&rt, is_loaded(&rt, rt.alloc(), first as u64)?, first);
+        let spool = Spool::new(rt.alloc(), None)?;
+        holds(&rt, is_loaded(&rt, rt.alloc(), first as u64, spool)?, first);
     }
     Ok(())
 }

@@ -8,7 +8,7 @@ use crate::openings::{
     ATTEMPTED, Start, adopted, again, look, made, migrated, pool_of, reopened, same_text,
 };
 use permits::PARTS;
-use sqlite::{Connection, MemStore};
+use sqlite::{Alter, Connection, MemStore};
 use std::alloc::Global;
 use std::marker::Brand;
 use std::process::Abort;
@@ -531,13 +531,13 @@ fn other_versions_are_only_read(rt: HostRuntime) {
 }
 
 /// Whether the vault answers so, and writes nothing.
-fn check_adopt(
+fn check_adopt<S: Alter>(
     rt: &impl Abort,
     alloc: Global,
-    conn: Connection<MemStore>,
+    conn: Connection<S>,
     wanted: &str,
     place: usize,
-) -> Connection<MemStore> {
+) -> Connection<S> {
     let mut conn = conn;
     let before = look(rt, alloc, &mut conn, CHANGED, &[]);
     let (text, conn) = adopted(rt, alloc, conn);
@@ -552,21 +552,30 @@ fn check_adopt(
     conn
 }
 
-/// Whether the store is migrated with this answer, and again, when nothing is written.
-fn check_migrate(
+/// Whether the store is migrated with this answer.
+fn check_migrate<S: Alter>(
     rt: &impl Abort,
     alloc: Global,
-    conn: Connection<MemStore>,
+    conn: Connection<S>,
+    wanted: &str,
+    place: usize,
+) -> Connection<S> {
+    let (text, conn) = migrated(rt, alloc, conn);
+    same_text(rt, &text, wanted, place);
+    conn
+}
+
+/// Whether a store that was migrated is so again with this answer, and nothing is written.
+fn check_migrated<S: Alter>(
+    rt: &impl Abort,
+    alloc: Global,
+    conn: Connection<S>,
     old: &Old,
     place: usize,
-) -> Connection<MemStore> {
-    let (text, conn) = migrated(rt, alloc, conn);
-    same_text(rt, &text, old.2, place);
-    let mut conn = again(rt, alloc, conn);
-    let once = look(rt, alloc, &mut conn, CHANGED, old.3);
-    let (text, conn) = migrated(rt, alloc, conn);
-    same_text(rt, &text, old.2, place);
+) -> Connection<S> {
     let mut conn = conn;
+    let once = look(rt, alloc, &mut conn, CHANGED, old.3);
+    let mut conn = check_migrate(rt, alloc, conn, old.2, place);
     same_text(rt, &look(rt, alloc, &mut conn, CHANGED, &[]), &once, place);
     conn
 }
@@ -576,15 +585,17 @@ fn check_vault(rt: &impl Abort, alloc: Global, old: &Old, rows: &[&str], place: 
     let mut conn = made(rt, alloc, Start::First, old.0);
     let before = look(rt, alloc, &mut conn, rows, &[]);
     let conn = check_adopt(rt, alloc, conn, old.1, place);
-    let mut conn = check_migrate(rt, alloc, conn, old, place);
+    let conn = check_migrate(rt, alloc, conn, old.2, place);
+    let mut conn = check_migrated(rt, alloc, again(rt, alloc, conn), old, place);
     same_text(rt, &look(rt, alloc, &mut conn, rows, &[]), &before, place);
 }
 
 /// The same of its desk.
-fn check_desk<L: Ledger>(
+fn check_desk<L: Ledger, S: Alter + Drop>(
     rt: &impl Abort,
     alloc: Global,
     blank: Blank,
+    conn: Connection<S>,
     old: &Old,
     rows: &[&str],
     place: usize,
@@ -594,9 +605,9 @@ fn check_desk<L: Ledger>(
     requires enough { blank.parts ≡ PARTS }
 {
     let pool = pool_of::<L>(rt, alloc, blank);
-    let mut conn = made(rt, alloc, Start::First, old.0);
+    let mut conn = conn;
     let before = look(rt, alloc, &mut conn, rows, &[]);
-    let (text, conn) = reopened::<L>(rt, alloc, pool, conn);
+    let (text, conn) = reopened(rt, alloc, pool, conn);
     same_text(rt, &text, old.2, place);
     let mut conn = conn;
     same_text(rt, &look(rt, alloc, &mut conn, rows, old.3), &before, place);
@@ -604,7 +615,8 @@ fn check_desk<L: Ledger>(
 
 fn check(rt: &impl Abort, alloc: Global, old: &Old, rows: &[&str], place: usize) {
     check_vault(rt, alloc, old, rows, place);
-    check_desk::<Brand>(rt, alloc, Blank::new(PARTS), old, rows, place);
+    let conn = made(rt, alloc, Start::First, old.0);
+    check_desk::<Brand, MemStore>(rt, alloc, Blank::new(PARTS), conn, old, rows, place);
 }
 
 /// Whether the stores are answered so, and keep these rows.

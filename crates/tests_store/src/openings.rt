@@ -11,7 +11,7 @@ use permits::{PARTS, Pool};
 use recovery::reopen;
 use relay_types::{MAX_RECORDS, Moment, MsgId, Name, State};
 use spool::{Books, OpenFault, Vault};
-use sqlite::{Connection, MemStore};
+use sqlite::{Alter, Connection, MemStore};
 use sqlite_value::value::ValueRef;
 use std::alloc::Global;
 use std::marker::Brand;
@@ -79,7 +79,7 @@ pub(crate) const ATTEMPTED: &str =
      INSERT INTO attempts VALUES(2, 1, 1, 500, 1001); \
      UPDATE meta SET records = 3";
 
-fn fill_body(alloc: Global, conn: &mut Connection<MemStore>, len: usize) -> Result<(), Fail> {
+fn fill_body<S: Alter>(alloc: Global, conn: &mut Connection<S>, len: usize) -> Result<(), Fail> {
     let mut bytes = Vec::with_capacity(alloc, len)?;
     for _ in 0..len {
         bytes.push(b'a')?;
@@ -102,7 +102,7 @@ fn with_endpoints(alloc: Global, count: u32) -> Result<String, Fail> {
     Ok(text)
 }
 
-fn add_topic(alloc: Global, conn: &mut Connection<MemStore>, number: u32) -> Result<(), Fail> {
+fn add_topic<S: Alter>(alloc: Global, conn: &mut Connection<S>, number: u32) -> Result<(), Fail> {
     let topic = format!(in alloc; "t{number}")?;
     let values = [
         ValueRef::Text(topic.as_bytes()),
@@ -112,7 +112,7 @@ fn add_topic(alloc: Global, conn: &mut Connection<MemStore>, number: u32) -> Res
     Ok(())
 }
 
-fn fill_topics(alloc: Global, conn: &mut Connection<MemStore>, count: u32) -> Result<(), Fail> {
+fn fill_topics<S: Alter>(alloc: Global, conn: &mut Connection<S>, count: u32) -> Result<(), Fail> {
     run(conn, ENDPOINT)?;
     run(conn, "BEGIN")?;
     for number in 0..count {
@@ -122,16 +122,20 @@ fn fill_topics(alloc: Global, conn: &mut Connection<MemStore>, count: u32) -> Re
     run(conn, &text)
 }
 
-fn run(conn: &mut Connection<MemStore>, text: &str) -> Result<(), Fail> {
+fn run<S: Alter>(conn: &mut Connection<S>, text: &str) -> Result<(), Fail> {
     Ok(conn.execute_batch(text)?)
 }
 
-fn fill_endpoints(alloc: Global, conn: &mut Connection<MemStore>, count: u32) -> Result<(), Fail> {
+fn fill_endpoints<S: Alter>(
+    alloc: Global,
+    conn: &mut Connection<S>,
+    count: u32,
+) -> Result<(), Fail> {
     let text = with_endpoints(alloc, count)?;
     run(conn, &text)
 }
 
-fn fill_start(alloc: Global, conn: &mut Connection<MemStore>, start: Start) -> Result<(), Fail> {
+fn fill_start<S: Alter>(alloc: Global, conn: &mut Connection<S>, start: Start) -> Result<(), Fail> {
     match start {
         Start::Nothing | Start::Ours => Ok(()),
         Start::First => run(conn, FIRST),
@@ -144,9 +148,9 @@ fn fill_start(alloc: Global, conn: &mut Connection<MemStore>, start: Start) -> R
     }
 }
 
-fn fill(
+fn fill<S: Alter>(
     alloc: Global,
-    conn: &mut Connection<MemStore>,
+    conn: &mut Connection<S>,
     start: Start,
     texts: &[&str],
 ) -> Result<(), Fail> {
@@ -155,6 +159,18 @@ fn fill(
         run(conn, text)?;
     }
     Ok(())
+}
+
+/// The store with what stands in it first, in which the texts were executed.
+fn filled<S: Alter + Drop>(
+    alloc: Global,
+    conn: Connection<S>,
+    start: Start,
+    texts: &[&str],
+) -> Result<Connection<S>, Fail> {
+    let mut conn = conn;
+    fill(alloc, &mut conn, start, texts)?;
+    Ok(conn)
 }
 
 fn begun(alloc: Global, start: Start) -> Result<Connection<MemStore>, Fail> {
@@ -177,7 +193,11 @@ pub(crate) fn again(
 }
 
 /// All rows, before and after the opening.
-fn told(alloc: Global, conn: &mut Connection<MemStore>, queries: &[&str]) -> Result<String, Fail> {
+fn told<S: Alter>(
+    alloc: Global,
+    conn: &mut Connection<S>,
+    queries: &[&str],
+) -> Result<String, Fail> {
     let mut text = String::new(alloc);
     for sql in queries {
         text.push_str(&answer(alloc, conn, sql)?)?;
@@ -193,10 +213,10 @@ fn text_or_abort(rt: &impl Abort, text: Result<String, Fail>) -> String {
 }
 
 /// The rows that the queries give, where each of the others gives its number.
-pub(crate) fn look(
+pub(crate) fn look<S: Alter>(
     rt: &impl Abort,
     alloc: Global,
-    conn: &mut Connection<MemStore>,
+    conn: &mut Connection<S>,
     queries: &[&str],
     counts: &[Count],
 ) -> String {
@@ -263,7 +283,7 @@ fn listed(alloc: Global, books: &Books) -> Result<String, Fail> {
     text_of(alloc, books.records, enabled, event)
 }
 
-fn loaded(alloc: Global, vault: &mut Vault<MemStore>) -> Result<String, Fail> {
+fn loaded<S: Alter>(alloc: Global, vault: &mut Vault<S>) -> Result<String, Fail> {
     match vault.load(alloc) {
         Ok(books) => listed(alloc, &books),
         Err(_) => Err(Fail::from("the load was refused")),
@@ -274,14 +294,14 @@ fn fault_of(alloc: Global, fault: OpenFault) -> Result<String, Fail> {
     Ok(format!(in alloc; "{fault}")?)
 }
 
-type Back = (Connection<MemStore>, OpenFault);
+type Back<S> = (Connection<S>, OpenFault);
 
 /// What the vault lists, or why there is none.
-fn listed_or_fault(
+fn listed_or_fault<S: Alter>(
     rt: &impl Abort,
     alloc: Global,
-    opening: Result<Vault<MemStore>, Back>,
-) -> (String, Connection<MemStore>) {
+    opening: Result<Vault<S>, Back<S>>,
+) -> (String, Connection<S>) {
     match opening {
         Ok(vault) => {
             let mut vault = vault;
@@ -293,21 +313,21 @@ fn listed_or_fault(
 }
 
 /// What the vault of the store lists, or why there is none.
-pub(crate) fn adopted(
+pub(crate) fn adopted<S: Alter>(
     rt: &impl Abort,
     alloc: Global,
-    conn: Connection<MemStore>,
-) -> (String, Connection<MemStore>) {
+    conn: Connection<S>,
+) -> (String, Connection<S>) {
     assert!(rt; conn.is_autocommit());
     listed_or_fault(rt, alloc, Vault::adopt(conn, MARK, alloc))
 }
 
 /// The same once its tables are of version 2.
-pub(crate) fn migrated(
+pub(crate) fn migrated<S: Alter>(
     rt: &impl Abort,
     alloc: Global,
-    conn: Connection<MemStore>,
-) -> (String, Connection<MemStore>) {
+    conn: Connection<S>,
+) -> (String, Connection<S>) {
     assert!(rt; conn.is_autocommit());
     listed_or_fault(rt, alloc, Vault::migrate(conn, MARK, alloc))
 }
@@ -354,12 +374,12 @@ fn tried<L: Ledger>(alloc: Global, desk: &mut Desk<L>) -> Result<String, Fail> {
 }
 
 /// What the desk of the store shows, or why there is none.
-pub(crate) fn reopened<L: Ledger>(
+pub(crate) fn reopened<L: Ledger, S: Alter>(
     rt: &impl Abort,
     alloc: Global,
     pool: Pool<L>,
-    conn: Connection<MemStore>,
-) -> (String, Connection<MemStore>)
+    conn: Connection<S>,
+) -> (String, Connection<S>)
     requires { pool ≡ [] }
 {
     assert!(rt; conn.is_autocommit());
@@ -386,17 +406,24 @@ pub(crate) fn pool_of<L: Ledger>(rt: &impl Abort, alloc: Global, blank: Blank) -
 }
 
 /// The desk is that of the last opening: whether the vault and the desk of the store answer so.
-fn check_in<L: Ledger>(rt: &impl Abort, alloc: Global, blank: Blank, file: &File, place: usize)
+fn check_in<L: Ledger, S: Alter + Drop>(
+    rt: &impl Abort,
+    alloc: Global,
+    blank: Blank,
+    conn: Connection<S>,
+    file: &File,
+    place: usize,
+)
     requires name { blank.name ≡ L.name }
     requires parts { blank.parts ≡ L.parts }
     requires enough { blank.parts ≡ PARTS }
 {
     let pool = pool_of::<L>(rt, alloc, blank);
-    let mut conn = made(rt, alloc, file.0, file.1);
+    let mut conn = conn;
     let before = look(rt, alloc, &mut conn, file.2, file.4);
     let (text, conn) = adopted(rt, alloc, conn);
     same_text(rt, &text, file.3, place);
-    let (text, conn) = reopened::<L>(rt, alloc, pool, conn);
+    let (text, conn) = reopened(rt, alloc, pool, conn);
     same_text(rt, &text, file.3, place);
     let mut conn = conn;
     let after = look(rt, alloc, &mut conn, file.2, file.4);
@@ -417,13 +444,12 @@ pub(crate) fn made(
 }
 
 fn written(alloc: Global, start: Start, texts: &[&str]) -> Result<Connection<MemStore>, Fail> {
-    let mut conn = begun(alloc, start)?;
-    fill(alloc, &mut conn, start, texts)?;
-    Ok(conn)
+    filled(alloc, begun(alloc, start)?, start, texts)
 }
 
 fn check(rt: &impl Abort, alloc: Global, file: &File, place: usize) {
-    check_in::<Brand>(rt, alloc, Blank::new(PARTS), file, place);
+    let conn = made(rt, alloc, file.0, file.1);
+    check_in::<Brand, MemStore>(rt, alloc, Blank::new(PARTS), conn, file, place);
 }
 
 /// Whether the files are answered so, and then have the rows that they had.

@@ -2,10 +2,11 @@
 
 use crate::entries::{Entry, Keys};
 use crate::openings::again;
-use crate::stories::{Look, Step, Story, walk, walk_on, walk_through};
-use crate::tables::{EVENT_A, PUT_A, adopted};
+use crate::stories::{Look, Step, Story, walk, walk_through};
+use crate::tables::{EVENT_A, PUT_A, walk_adopted};
 use crate::vaults::{Moments, Span, Spool, Told};
 use spool::Unchanged;
+use sqlite::{Connection, MemStore};
 use std::alloc::Global;
 use std::process::Abort;
 use std::test::Fail;
@@ -367,19 +368,23 @@ static AND_IS_ADOPTED: Story = Story {
     ],
 };
 
-/// A vault that takes the steps, closed and adopted.
-fn adopted_after(rt: &impl Abort, alloc: Global, steps: &[Step]) -> Result<Spool, Fail> {
+/// The store of a vault that takes the steps, opened over again.
+fn left_after(
+    rt: &impl Abort,
+    alloc: Global,
+    steps: &[Step],
+) -> Result<Connection<MemStore>, Fail> {
     let (told, conn) = walk_through(rt, alloc, Spool::new(alloc, None)?, steps);
     match told {
-        Ok(()) => Spool::of(alloc, adopted(alloc, again(rt, alloc, conn))?),
+        Ok(()) => Ok(again(rt, alloc, conn)),
         Err(fail) => Err(fail),
     }
 }
 
 #[test]
 fn a_flag_without_its_attempt_is_adopted(rt: HostRuntime) -> Result<(), Fail> {
-    let spool = adopted_after(&rt, rt.alloc(), A_FLAG_OUTLIVES_ITS_ATTEMPT.steps)?;
-    walk_on(&rt, rt.alloc(), spool, &AND_IS_ADOPTED)
+    let conn = left_after(&rt, rt.alloc(), A_FLAG_OUTLIVES_ITS_ATTEMPT.steps)?;
+    walk_adopted(&rt, rt.alloc(), conn, &AND_IS_ADOPTED)
 }
 
 /// A page has 256 rows. Events 1 to 600 ended at 1000 where their number is even, and at 1001 where it isn't.

@@ -9,7 +9,7 @@ use spool_sql::{
     insert_endpoint, insert_secret, insert_topic, is_empty, probe, select_events, select_put,
     select_tries, update_records, update_version,
 };
-use sqlite::{Connection, Error, ErrorCode, MemStore, Transaction};
+use sqlite::{Alter, Connection, Error, ErrorCode, Transaction};
 use std::alloc::Global;
 use std::process::Abort;
 use std::test::Fail;
@@ -68,9 +68,9 @@ fn seq(number: u32) -> Seq {
     Seq::of(u64::from(number))
 }
 
-fn add_endpoint(
+fn add_endpoint<S: Alter>(
     alloc: Global,
-    tx: &mut Transaction<'_, MemStore>,
+    tx: &mut Transaction<'_, S>,
     put: u32,
     name: &[u8],
     max: u64,
@@ -81,8 +81,8 @@ fn add_endpoint(
     Ok(insert_endpoint(tx, seq(put), &name, &target, max))
 }
 
-fn add_secret(
-    tx: &mut Transaction<'_, MemStore>,
+fn add_secret<S: Alter>(
+    tx: &mut Transaction<'_, S>,
     endpoint: u32,
     place: u32,
     bytes: &[u8],
@@ -91,9 +91,9 @@ fn add_secret(
     Ok(insert_secret(tx, seq(endpoint), u64::from(place), &secret))
 }
 
-fn add_delivery(
+fn add_delivery<S: Alter>(
     alloc: Global,
-    tx: &mut Transaction<'_, MemStore>,
+    tx: &mut Transaction<'_, S>,
     number: u32,
     endpoint: u32,
     id: &[u8],
@@ -105,8 +105,8 @@ fn add_delivery(
     Ok(insert_delivery(tx, seq(number), seq(endpoint), &id, at, &body))
 }
 
-fn add_attempt(
-    tx: &mut Transaction<'_, MemStore>,
+fn add_attempt<S: Alter>(
+    tx: &mut Transaction<'_, S>,
     number: u32,
     delivery: u32,
     attempt: u32,
@@ -124,8 +124,8 @@ fn add_attempt(
     ))
 }
 
-fn add_topic(
-    tx: &mut Transaction<'_, MemStore>,
+fn add_topic<S: Alter>(
+    tx: &mut Transaction<'_, S>,
     topic: &[u8],
     endpoint: u32,
     flag: bool,
@@ -135,8 +135,8 @@ fn add_topic(
     Ok(insert_topic(tx, &topic, seq(endpoint), flag, seq(set_by)))
 }
 
-fn remove_topic(
-    tx: &mut Transaction<'_, MemStore>,
+fn remove_topic<S: Alter>(
+    tx: &mut Transaction<'_, S>,
     topic: &[u8],
     endpoint: u32,
 ) -> Result<Result<(), Error>, Fail> {
@@ -150,9 +150,9 @@ fn done(answer: Result<(), Error>) -> Result<bool, Error> {
 }
 
 /// Whether the call added or changed what it says.
-fn make(
+fn make<S: Alter>(
     alloc: Global,
-    tx: &mut Transaction<'_, MemStore>,
+    tx: &mut Transaction<'_, S>,
     call: Call,
 ) -> Result<Result<bool, Error>, Fail> {
     match call {
@@ -184,8 +184,8 @@ fn is_refused(answer: Result<bool, Error>) -> bool {
     }
 }
 
-fn is_put(
-    tx: &mut Transaction<'_, MemStore>,
+fn is_put<S: Alter>(
+    tx: &mut Transaction<'_, S>,
     name: &[u8],
     wanted: Option<u32>,
 ) -> Result<bool, Fail> {
@@ -197,8 +197,8 @@ fn is_put(
     }
 }
 
-fn is_there(
-    tx: &mut Transaction<'_, MemStore>,
+fn is_there<S: Alter>(
+    tx: &mut Transaction<'_, S>,
     topic: &[u8],
     endpoint: u32,
     wanted: bool,
@@ -227,9 +227,9 @@ fn same_tries(found: &[Tried], wanted: &[(u64, u16, u64)]) -> bool {
     is_same
 }
 
-fn add_all(
+fn add_all<S: Alter>(
     alloc: Global,
-    tx: &mut Transaction<'_, MemStore>,
+    tx: &mut Transaction<'_, S>,
     endpoint: u32,
     first: u32,
     end: u32,
@@ -250,7 +250,7 @@ fn is_page(found: &[Seq], count: usize, first: u64, last: u64) -> bool {
     }
 }
 
-fn is_so(alloc: Global, tx: &mut Transaction<'_, MemStore>, step: Step) -> Result<bool, Fail> {
+fn is_so<S: Alter>(alloc: Global, tx: &mut Transaction<'_, S>, step: Step) -> Result<bool, Fail> {
     match step {
         Step::Done(made) => Ok(make(alloc, tx, made)? == Ok(true)),
         Step::Known(made) => Ok(make(alloc, tx, made)? == Ok(false)),
@@ -270,10 +270,10 @@ fn is_so(alloc: Global, tx: &mut Transaction<'_, MemStore>, step: Step) -> Resul
     }
 }
 
-fn take(
+fn take<S: Alter>(
     rt: &impl Abort,
     alloc: Global,
-    tx: &mut Transaction<'_, MemStore>,
+    tx: &mut Transaction<'_, S>,
     steps: &[Step],
 ) -> Result<(), Fail> {
     for (place, step) in steps.iter().enumerate() {
@@ -283,10 +283,10 @@ fn take(
 }
 
 /// Takes the steps in one transaction, which is kept or undone.
-fn take_within(
+fn take_within<S: Alter>(
     rt: &impl Abort,
     alloc: Global,
-    conn: &mut Connection<MemStore>,
+    conn: &mut Connection<S>,
     steps: &[Step],
     is_kept: bool,
 ) -> Result<(), Fail> {
@@ -301,14 +301,14 @@ fn take_within(
     }
 }
 
-fn answers(conn: &mut Connection<MemStore>) -> bool {
+fn answers<S: Alter>(conn: &mut Connection<S>) -> bool {
     conn.is_autocommit() && probe(conn).is_ok()
 }
 
-fn look(
+fn look<S: Alter>(
     rt: &impl Abort,
     alloc: Global,
-    conn: &mut Connection<MemStore>,
+    conn: &mut Connection<S>,
     steps: &[Step],
     counts: &[Count],
 ) -> Result<(), Fail> {

@@ -10,7 +10,7 @@ use delivery_book::DeliveryBook;
 use endpoint_book::EndpointBook;
 use relay_types::{MsgId, Name, State};
 use spool::{Books, LoadFault};
-use sqlite::{Connection, MemStore};
+use sqlite::{Alter, Connection};
 use std::alloc::Global;
 use std::process::Abort;
 use std::test::Fail;
@@ -182,7 +182,12 @@ fn sees_all(rt: &impl Abort, alloc: Global, books: &Books, looks: &[Look]) -> Re
     Ok(())
 }
 
-fn shows(rt: &impl Abort, alloc: Global, spool: &mut Spool, looks: &[Look]) -> Result<bool, Fail> {
+fn shows<S: Alter>(
+    rt: &impl Abort,
+    alloc: Global,
+    spool: &mut Spool<S>,
+    looks: &[Look],
+) -> Result<bool, Fail> {
     let books = spool.books(alloc)?;
     match sees_all(rt, alloc, &books, looks) {
         Ok(()) => Ok(true),
@@ -190,7 +195,7 @@ fn shows(rt: &impl Abort, alloc: Global, spool: &mut Spool, looks: &[Look]) -> R
     }
 }
 
-fn is_not_loaded(alloc: Global, spool: &mut Spool, fault: Fault) -> bool {
+fn is_not_loaded<S: Alter>(alloc: Global, spool: &mut Spool<S>, fault: Fault) -> bool {
     match (spool.vault.load(alloc), fault) {
         (Err(LoadFault::Closed), Fault::Closed) => true,
         (Err(LoadFault::Store(_)), Fault::Store) => true,
@@ -198,7 +203,12 @@ fn is_not_loaded(alloc: Global, spool: &mut Spool, fault: Fault) -> bool {
     }
 }
 
-fn take(rt: &impl Abort, alloc: Global, spool: &mut Spool, step: Step) -> Result<bool, Fail> {
+fn take<S: Alter>(
+    rt: &impl Abort,
+    alloc: Global,
+    spool: &mut Spool<S>,
+    step: Step,
+) -> Result<bool, Fail> {
     match step {
         Step::Turn(mark, from, entry, wanted) => {
             Ok(same_told(take_turn(alloc, spool, mark, from, entry)?, wanted))
@@ -220,7 +230,12 @@ fn take(rt: &impl Abort, alloc: Global, spool: &mut Spool, step: Step) -> Result
     }
 }
 
-fn take_all(rt: &impl Abort, alloc: Global, spool: &mut Spool, steps: &[Step]) -> Result<(), Fail> {
+fn take_all<S: Alter>(
+    rt: &impl Abort,
+    alloc: Global,
+    spool: &mut Spool<S>,
+    steps: &[Step],
+) -> Result<(), Fail> {
     for (place, step) in steps.iter().enumerate() {
         holds(rt, take(rt, alloc, spool, *step)?, place);
     }
@@ -233,10 +248,10 @@ pub(crate) fn walk(rt: &impl Abort, alloc: Global, story: &Story) -> Result<(), 
 }
 
 /// Takes the steps in turn on this vault.
-pub(crate) fn walk_on(
+pub(crate) fn walk_on<S: Alter + Drop>(
     rt: &impl Abort,
     alloc: Global,
-    spool: Spool,
+    spool: Spool<S>,
     story: &Story,
 ) -> Result<(), Fail> {
     let (told, conn) = walk_through(rt, alloc, spool, story.steps);
@@ -249,12 +264,12 @@ pub(crate) fn walk_on(
 }
 
 /// Takes the steps in turn on this vault, and gives its tables back.
-pub(crate) fn walk_through(
+pub(crate) fn walk_through<S: Alter>(
     rt: &impl Abort,
     alloc: Global,
-    spool: Spool,
+    spool: Spool<S>,
     steps: &[Step],
-) -> (Result<(), Fail>, Connection<MemStore>) {
+) -> (Result<(), Fail>, Connection<S>) {
     let mut spool = spool;
     let told = take_all(rt, alloc, &mut spool, steps);
     (told, spool.release())

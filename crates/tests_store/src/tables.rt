@@ -8,8 +8,9 @@ use crate::openings::{Start, made};
 use crate::stories::{Look, Step, Story, walk, walk_on};
 use crate::vaults::{MARK, Spool, Told, opened};
 use spool::{OpenFault, Unchanged, Vault};
-use sqlite::{Connection, MemStore};
+use sqlite::{Alter, Connection};
 use std::alloc::Global;
+use std::process::Abort;
 use std::test::Fail;
 
 pub(crate) const KEYS: Keys = Keys::Two(
@@ -54,9 +55,9 @@ fn rows_are_counted(rt: HostRuntime) -> Result<(), Fail> {
     walk(&rt, rt.alloc(), &ROWS_ARE_COUNTED)
 }
 
-#[test]
-fn a_store_with_a_table_of_topics_is_not_ours(rt: HostRuntime) -> Result<(), Fail> {
-    let mut conn = Connection::open_in_memory(rt.alloc())?;
+/// Whether nothing is made beside a table of topics.
+fn refuses_topics<S: Alter + Drop>(conn: Connection<S>) -> Result<(), Fail> {
+    let mut conn = conn;
     conn.execute_batch("CREATE TABLE topics(a)")?;
     if !conn.is_autocommit() {
         return Err(Fail::from("a transaction is open"));
@@ -69,16 +70,25 @@ fn a_store_with_a_table_of_topics_is_not_ours(rt: HostRuntime) -> Result<(), Fai
 }
 
 #[test]
-fn a_store_with_our_tables_is_not_ours(rt: HostRuntime) -> Result<(), Fail> {
-    let conn = opened(rt.alloc(), None)?.release();
-    match Vault::create(conn, 8) {
+fn a_store_with_a_table_of_topics_is_not_ours(rt: HostRuntime) -> Result<(), Fail> {
+    refuses_topics(Connection::open_in_memory(rt.alloc())?)
+}
+
+/// Whether nothing is made in the store of this vault.
+fn refuses_ours<S: Alter + Drop>(rt: &impl Abort, vault: Vault<S>) -> Result<(), Fail> {
+    match Vault::create(vault.release(), 8) {
         Ok(_) => Err(Fail::from("create was not refused")),
         Err((conn, fault)) => {
             let mut conn = conn;
             assert!(rt; matches!(fault, OpenFault::NotOurs));
-            count_all(&rt, &mut conn, &[("SELECT records FROM meta", 0)])
+            count_all(rt, &mut conn, &[("SELECT records FROM meta", 0)])
         }
     }
+}
+
+#[test]
+fn a_store_with_our_tables_is_not_ours(rt: HostRuntime) -> Result<(), Fail> {
+    refuses_ours(&rt, opened(rt.alloc(), None)?)
 }
 
 static REFUSALS_CHANGE_NOTHING: Story = Story {
@@ -297,7 +307,7 @@ static AT_MOST_4096_TOPICS: Story = Story {
     ],
 };
 
-pub(crate) fn adopted(alloc: Global, conn: Connection<MemStore>) -> Result<Vault<MemStore>, Fail> {
+fn adopted<S: Alter + Drop>(alloc: Global, conn: Connection<S>) -> Result<Vault<S>, Fail> {
     if !conn.is_autocommit() {
         return Err(Fail::from("a transaction is open"));
     }
@@ -307,11 +317,20 @@ pub(crate) fn adopted(alloc: Global, conn: Connection<MemStore>) -> Result<Vault
     }
 }
 
+/// Takes the steps in turn on the vault that adopts the store.
+pub(crate) fn walk_adopted<S: Alter + Drop>(
+    rt: &impl Abort,
+    alloc: Global,
+    conn: Connection<S>,
+    story: &Story,
+) -> Result<(), Fail> {
+    walk_on(rt, alloc, Spool::of(alloc, adopted(alloc, conn)?)?, story)
+}
+
 #[test]
 fn at_most_4096_topics(rt: HostRuntime) -> Result<(), Fail> {
     let conn = made(&rt, rt.alloc(), Start::Topics(4095), &[]);
-    let spool = Spool::of(rt.alloc(), adopted(rt.alloc(), conn)?)?;
-    walk_on(&rt, rt.alloc(), spool, &AT_MOST_4096_TOPICS)
+    walk_adopted(&rt, rt.alloc(), conn, &AT_MOST_4096_TOPICS)
 }
 
 /// Nine failures and a gone, and then the tenth failure.

@@ -4,7 +4,7 @@ use crate::entries::{Entry, Keys, accept, name_of, put, record_of, secrets_of, s
 use group_commit::Waiting;
 use relay_types::{Moment, MsgId, Name, Record, Step};
 use spool::{Batch, Books, CommitEnd, Receipt, Unchanged, Vault};
-use sqlite::{Connection, MemStore};
+use sqlite::{Alter, Connection, MemStore};
 use std::alloc::Global;
 use std::process::Abort;
 use std::test::Fail;
@@ -33,12 +33,12 @@ pub(crate) fn same_told(told: Told, wanted: Told) -> bool {
 
 /// A vault, and the steps that wait to be committed to it.
 #[derive(Drop)]
-pub(crate) struct Spool {
-    pub vault: Vault<MemStore>,
+pub(crate) struct Spool<S: Alter> {
+    pub vault: Vault<S>,
     pub waiting: Waiting,
 }
 
-fn created(conn: Connection<MemStore>) -> Result<Vault<MemStore>, Fail> {
+fn created<S: Alter + Drop>(conn: Connection<S>) -> Result<Vault<S>, Fail> {
     if !conn.is_autocommit() {
         return Err(Fail::from("a transaction is open"));
     }
@@ -61,7 +61,7 @@ fn ended(receipt: Receipt, mark: u64, from: u64) -> Told {
     if is_same { Told::Written } else { Told::Astray }
 }
 
-fn commit(vault: &mut Vault<MemStore>, batch: Batch, mark: u64, from: u64) -> Told {
+fn commit<S: Alter>(vault: &mut Vault<S>, batch: Batch, mark: u64, from: u64) -> Told {
     match vault.commit(batch) {
         Ok(receipt) => ended(receipt, mark, from),
         Err(CommitEnd::Unchanged(batch, why)) => {
@@ -83,9 +83,9 @@ fn batch(alloc: Global, mark: u64, from: u32, record: Record) -> Result<Batch, F
 }
 
 /// Commits the record alone as a batch of this mark and number.
-fn enter(
+fn enter<S: Alter>(
     alloc: Global,
-    vault: &mut Vault<MemStore>,
+    vault: &mut Vault<S>,
     mark: u64,
     from: u32,
     record: Record,
@@ -95,9 +95,9 @@ fn enter(
 }
 
 /// Commits the entry alone as a batch of this mark and number.
-pub(crate) fn take_turn(
+pub(crate) fn take_turn<S: Alter>(
     alloc: Global,
-    spool: &mut Spool,
+    spool: &mut Spool<S>,
     mark: u64,
     from: u32,
     entry: Entry,
@@ -107,16 +107,20 @@ pub(crate) fn take_turn(
 }
 
 /// Commits the entry as the next.
-pub(crate) fn take_next(alloc: Global, spool: &mut Spool, entry: Entry) -> Result<Told, Fail> {
+pub(crate) fn take_next<S: Alter>(
+    alloc: Global,
+    spool: &mut Spool<S>,
+    entry: Entry,
+) -> Result<Told, Fail> {
     let from = u32::try_from(spool.vault.next())?;
     take_turn(alloc, spool, MARK, from, entry)
 }
 
 /// Commits the entries as one batch.
-pub(crate) fn take_together(
+pub(crate) fn take_together<S: Alter>(
     rt: &impl Abort,
     alloc: Global,
-    spool: &mut Spool,
+    spool: &mut Spool<S>,
     entries: &[Entry],
 ) -> Result<Told, Fail> {
     spool.follow(rt, alloc)?;
@@ -132,9 +136,9 @@ fn numbered(alloc: Global, number: u32) -> Result<Name, Fail> {
 }
 
 /// Puts so many endpoints, until one is not written.
-pub(crate) fn put_all(
+pub(crate) fn put_all<S: Alter>(
     alloc: Global,
-    spool: &mut Spool,
+    spool: &mut Spool<S>,
     count: u32,
     keys: Keys,
 ) -> Result<Told, Fail> {
@@ -148,18 +152,22 @@ pub(crate) fn put_all(
     Ok(Told::Written)
 }
 
-impl Spool {
+impl Spool<MemStore> {
     /// A new vault.
-    pub(crate) fn new(alloc: Global, limit: Option<u64>) -> Result<Spool, Fail> {
+    pub(crate) fn new(alloc: Global, limit: Option<u64>) -> Result<Spool<MemStore>, Fail> {
         Spool::of(alloc, opened(alloc, limit)?)
     }
+}
 
+impl<S: Alter + Drop> Spool<S> {
     /// A vault for which nothing waits.
-    pub(crate) fn of(alloc: Global, vault: Vault<MemStore>) -> Result<Spool, Fail> {
+    pub(crate) fn of(alloc: Global, vault: Vault<S>) -> Result<Spool<S>, Fail> {
         let waiting = Waiting::new(alloc, 0, MARK)?;
         Ok(Spool { vault, waiting })
     }
+}
 
+impl<S: Alter> Spool<S> {
     /// The record waits as a step.
     pub(crate) fn stage(&mut self, rt: &impl Abort, record: Record) {
         assert!(rt; self.waiting.records() < 1_000_000);
@@ -222,7 +230,7 @@ impl Spool {
     }
 
     /// The connection.
-    pub(crate) fn release(self) -> Connection<MemStore> {
+    pub(crate) fn release(self) -> Connection<S> {
         let Spool { vault, waiting: _ } = self;
         vault.release()
     }
@@ -248,10 +256,10 @@ pub(crate) fn id_of(alloc: Global, number: u64) -> Result<MsgId, Fail> {
 }
 
 /// Commits events of `a` with these numbers in their ids.
-pub(crate) fn take_in(
+pub(crate) fn take_in<S: Alter>(
     rt: &impl Abort,
     alloc: Global,
-    spool: &mut Spool,
+    spool: &mut Spool<S>,
     span: Span,
     moments: Moments,
 ) -> Result<bool, Fail> {
@@ -275,10 +283,10 @@ pub(crate) fn topic_of(alloc: Global, number: u64) -> Result<Name, Fail> {
 }
 
 /// Subscribes `a` to the topics with these numbers.
-pub(crate) fn subscribe_all(
+pub(crate) fn subscribe_all<S: Alter>(
     rt: &impl Abort,
     alloc: Global,
-    spool: &mut Spool,
+    spool: &mut Spool<S>,
     span: Span,
 ) -> Result<bool, Fail> {
     let Span(first, end, size) = span;
@@ -295,10 +303,10 @@ pub(crate) fn subscribe_all(
 }
 
 /// Commits a first outcome of the events with these numbers.
-pub(crate) fn end_all(
+pub(crate) fn end_all<S: Alter>(
     rt: &impl Abort,
     alloc: Global,
-    spool: &mut Spool,
+    spool: &mut Spool<S>,
     span: Span,
     status: u16,
     moments: Moments,
