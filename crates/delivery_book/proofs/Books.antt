@@ -8,7 +8,7 @@ use Rattle.std.proofs.lemmas.Bool.{lt-ltb, le-ltb, cases_lt}
 use Rattle.std.proofs.lemmas.List.{take-append-le, get_or_append_left, get_or-append_right}
 use Rattle.std.proofs.lemmas.List.Elements.{All-from_recursion}
 use Rattle.std.proofs.lemmas.List.Folds.{find-append, list_all-append}
-use Rattle.std.proofs.lemmas.List.Sums.{list_all-from_AllPass, sum_by-append, sum_by-cons}
+use Rattle.std.proofs.lemmas.List.Sums.{count_by-le-length, list_all-from_AllPass, sum_by-append, sum_by-cons}
 use Rattle.relay_types.specs.declared.limits.TheConstants.{MAX_RECORDS}
 use Rattle.relay_types.specs.declared.state.State.{State}
 use Rattle.relay_types.specs.declared.state.State.TheVariants.{Pending}
@@ -25,8 +25,10 @@ use Rattle.delivery_book.specs.Fields.{is_taken_below, number_of}
 use Rattle.delivery_book.specs.Fields.{HasMore, HasSame, HasRoomForAll, KeepsRoom, in_state, counts_for, has_room}
 use Rattle.delivery_book.specs.Fields.{one_of}
 use Rattle.delivery_book.specs.Fields.{is_numbered, is_waiting, is_later, is_among, is_counted, settled_among}
+use Rattle.delivery_book.specs.Fields.{is_in_turn, may_wait}
 use Rattle.delivery_book.proofs.IndexLemmas.{indexed-append, keys-push, none_more}
 use Rattle.delivery_book.proofs.Updates.{IsFresh, all_at, all_weaker, caught-append}
+use Rattle.delivery_book.proofs.Turns.{fresh_in_turn}
 use Rattle.delivery_book.proofs.Marks.{apart-append, marks-append, order_later, unknown_taken}
 
 -- no entry has a number that is mapped away
@@ -131,7 +133,7 @@ pub book-append : (index later : EventIndex) (tally counted settled_tally opened
     → AreNew index events → HasMoreKeys index events later → HasMore tally (settled_among events) counted
     → HasSame settled_tally opened_tally
     → HasRoomForAll opened_tally events → KeepsRoom settled_tally opened_tally
-    → length entries + length events ≤ more_room
+    → count_by may_wait entries + length events ≤ more_room
     → IsBook (entries ++ events) later counted opened_tally unsettled more_room (seq + length events) settled n first
 book-append index later tally counted settled_tally opened_tally entries events unsettled room more_room next settled n
     seq first h up new unknown more again same opened stays enough = record {
@@ -151,7 +153,14 @@ book-append index later tally counted settled_tally opened_tally entries events 
             (λ o is. found_still entries events o is) h.queue.later;
         counted = omega (arith, h.queue.counted, sum_by-append (λ e. cond (is_waiting e) 1 0) entries events);
         caught_up = caught-append unsettled entries events h.queue.caught_up new.fresh;
-        room = omega (arith, enough, length-append entries events);
+        in_turn = list_all-append is_in_turn entries events
+            ∙ and_both _ _ h.queue.in_turn (fresh_in_turn events new.fresh);
+        room = omega (
+          arith,
+          enough,
+          sum_by-append (λ e. cond (may_wait e) 1 0) entries events,
+          count_by-le-length may_wait events,
+        );
       };
       order = order_later unsettled next (seq + length events) (omega (arith, up)) h.order;
       marks = marks-append entries events first next (seq + length events) h.marks (omega (arith, up))
@@ -184,7 +193,7 @@ pub book-push : (index later : EventIndex) (tally counted settled_tally opened_t
     → ((those : Option (List ℕ)) → counts_for opened_tally those ≡ counts_for settled_tally those)
     → has_room opened_tally name ≡ true
     → ((asked : List ℕ) → has_room settled_tally asked ≡ true → has_room opened_tally asked ≡ true)
-    → length entries + 1 ≤ more_room
+    → count_by may_wait entries + 1 ≤ more_room
     → IsBook (entries ++ new_entry seq name id body at ∷ []) later counted opened_tally unsettled more_room
     (seq + 1) settled n first
 book-push index later tally counted settled_tally opened_tally entries unsettled room more_room next settled n seq first
@@ -218,7 +227,7 @@ book-push index later tally counted settled_tally opened_tally entries unsettled
     numbers zero d lt = sym (add-zero seq)
     numbers (suc k) d lt = absurd (omega (arith, lt))
 
--- the same keys and counts, with as much room or more
+-- the same keys and counts, with room enough
 pub book-same : (index kept : EventIndex) (tally counted settled_tally opened_tally : Tally)
     (entries : List Entry) (unsettled : List Unsettled) (room more_room next settled n : ℕ) (first : Option ℕ)
     → IsBook entries index tally settled_tally unsettled room next settled n first
@@ -226,7 +235,8 @@ pub book-same : (index kept : EventIndex) (tally counted settled_tally opened_ta
     → ((those : Option (List ℕ)) → counts_for counted those ≡ counts_for tally those)
     → ((those : Option (List ℕ)) → counts_for opened_tally those ≡ counts_for settled_tally those)
     → ((asked : List ℕ) → has_room settled_tally asked ≡ true → has_room opened_tally asked ≡ true)
-    → room ≤ more_room → IsBook entries kept counted opened_tally unsettled more_room next settled n first
+    → count_by may_wait entries ≤ more_room
+    → IsBook entries kept counted opened_tally unsettled more_room next settled n first
 book-same index kept tally counted settled_tally opened_tally entries unsettled room more_room next settled n first h
     keys alike same stays enough = record {
       keyed = record {
@@ -246,8 +256,8 @@ book-same index kept tally counted settled_tally opened_tally entries unsettled 
         later = h.queue.later;
         counted = h.queue.counted;
         caught_up = h.queue.caught_up;
-        room = omega
-            (arith, h.queue.room, enough);
+        in_turn = h.queue.in_turn;
+        room = enough;
       };
       order = h.order;
       marks = h.marks;

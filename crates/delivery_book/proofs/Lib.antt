@@ -8,6 +8,7 @@ pub mod Laws
 pub mod Tellings
 pub mod Known
 pub mod Updates
+pub mod Turns
 pub mod Marks
 pub mod IndexLemmas
 pub mod Sweeps

@@ -2,15 +2,15 @@
 -- settled.
 use Rattle.std.proofs.Common.{◌≡◌, ◌&&◌, ℕ, ◌+◌, ◌-◌, ◌<◌, ◌≤◌, Bool, true, false, List, [], ◌∷◌, ◌++◌, Option, Some}
 use Rattle.std.proofs.Common.{length, take, drop, set, map, get_or, refl, sym, ◌∙◌, ap, subst, ltb, arith, cond, ⊎_elim}
-use Rattle.std.proofs.Common.{append-nil, length-append}
+use Rattle.std.proofs.Common.{append-nil, length-append, true≢false}
 use Rattle.std.specs.Prelude.{count_by, filter, max, option_map, option_to_list}
 use Rattle.std.specs.Option.{option_map_or}
 use Rattle.std.specs.List.{AllByRecursion, list_all}
 use Rattle.std.proofs.lemmas.Bool.{cases_lt, lt-ltb, ltb-true}
 use Rattle.std.proofs.Math.Seq.{take-set-lt}
-use Rattle.std.proofs.lemmas.List.{drop_all, get_or-take, length-map, length-set, length-take-le, take-map, take_all}
+use Rattle.std.proofs.lemmas.List.{drop_all, get_or-take, length-take-le, take-map, take_all}
 use Rattle.std.proofs.lemmas.List.Folds.{list_all-append, list_all-map}
-use Rattle.std.proofs.lemmas.List.Sums.{sum_by-set, count_by-le-length, list_all-from_AllPass}
+use Rattle.std.proofs.lemmas.List.Sums.{sum_by-set, list_all-from_AllPass}
 use Rattle.relay_types.specs.declared.limits.TheConstants.{MAX_RECORDS}
 use Rattle.relay_types.specs.declared.state.State.{State}
 use Rattle.relay_types.specs.declared.state.State.TheVariants.{Pending}
@@ -24,7 +24,7 @@ use Rattle.delivery_book.specs.Entries.{at_delivery, is_done_before, is_kept, is
 use Rattle.delivery_book.specs.Entries.{state_in, may_restore}
 use Rattle.delivery_book.specs.Fields.{AreMarked, HasLessKeys, IsAscending, IsBook, IsKeyed, IsQueue, IsTally}
 use Rattle.delivery_book.specs.Fields.{is_not_before, is_numbered, is_rightly_taken, is_waiting, is_later, in_state}
-use Rattle.delivery_book.specs.Fields.{counts_for, has_room, one_of, is_counted}
+use Rattle.delivery_book.specs.Fields.{counts_for, has_room, is_counted, is_in_turn, may_wait, one_of}
 use Rattle.delivery_book.proofs.Entries.{count-slice, entry_at-found, get_or-any}
 use Rattle.delivery_book.proofs.Marks.{entry_at-mapped, kept_left, kept_right, later-map, later-purge, marked_keeps}
 use Rattle.delivery_book.proofs.Marks.{marked_way, marks-later, marks-map, marks-purge, order_later, order_push}
@@ -33,6 +33,8 @@ use Rattle.delivery_book.proofs.IndexLemmas.{indexed-purge}
 use Rattle.delivery_book.proofs.Updates.{KeepsKeys, each_map, all_at, all_set, all_weaker, count-map, either_way}
 use Rattle.delivery_book.proofs.Updates.{set_is, indexed-map, keeps_where, keyed-map, all_numbered, tally-set}
 use Rattle.delivery_book.proofs.Updates.{opened_still, caught-outcome, caught-restored, caught-settle}
+use Rattle.delivery_book.proofs.Turns.{alike_in_turn, open_may, pending_may, places_set, turn_here, turns_outcome}
+use Rattle.delivery_book.proofs.Turns.{waiting_may}
 use Rattle.delivery_book.proofs.Books.{below, numbered_if}
 use Rattle.delivery_book.proofs.Progresses.{empty_if}
 
@@ -52,11 +54,13 @@ pub room_for : (entries : List Entry) (unsettled : List Unsettled) (room i : ℕ
     → IsQueue entries unsettled room → i < length entries → x ≡ get_or entries i x → is_open x ≡ true
     → length unsettled < room
 room_for entries unsettled room i x h inside is free =
-    grind (
+    omega (
       arith,
+      h.counted,
       waits_more 0 0 entries i x inside is free,
-      count_by-le-length is_waiting (set entries i (with_attempt 0 0 x)),
-      length-set entries i (with_attempt 0 0 x),
+      waiting_may (set entries i (with_attempt 0 0 x)) (turns_outcome entries i x inside is h.in_turn 0 0 free),
+      places_set entries i x inside is h.in_turn (with_attempt 0 0 x) (omega arith),
+      h.room,
     )
 
 -- an entry in its place is found by its number
@@ -130,7 +134,12 @@ book-outcome index tally less more settled_tally entries unsettled room next set
         );
         caught_up = subst (AllByRecursion (IsCaughtUp (unsettled ++ record { seq = seq; delivery = delivery } ∷ [])))
             (sym changed) (caught-outcome unsettled entries seq delivery status at h.queue.caught_up);
-        room = omega (arith, h.queue.room, length-set entries i (with_attempt status at x));
+        in_turn = turns_outcome entries i x inside is h.queue.in_turn status at free;
+        room = omega (
+          arith,
+          h.queue.room,
+          places_set entries i x inside is h.queue.in_turn (with_attempt status at x) (omega arith),
+        );
       };
       order = order_push unsettled next (record { seq = seq; delivery = delivery }) l h.order;
       marks = subst (λ es. AreMarked es purge (seq + 1)) (sym changed)
@@ -220,7 +229,14 @@ book-restored index tally less more settled_tally entries unsettled room next se
         counted = omega (arith, ap length waiting);
         caught_up = subst (AllByRecursion (IsCaughtUp unsettled)) (sym changed)
             (caught-restored unsettled entries delivery status at h.queue.caught_up);
-        room = omega (arith, h.queue.room, length-set entries i y);
+        in_turn = all_set is_in_turn entries i y (alike_in_turn y refl) h.queue.in_turn;
+        room = omega (
+          arith,
+          h.queue.room,
+          places_set entries i x inside is h.queue.in_turn y
+              (pending_less (may_wait y) (may_wait x)
+              (open_may x (turn_here entries i x inside is h.queue.in_turn) free)),
+        );
       };
       order = h.order;
       marks = subst (λ es. AreMarked es purge next) (sym changed)
@@ -246,6 +262,11 @@ book-restored index tally less more settled_tally entries unsettled room next se
     right = subst (λ es. list_all (is_rightly_taken next) es ≡ true) changed
         (all_set (is_rightly_taken next) entries i y
         (kept_right next y (open_kept entries purge next i x h.marks inside is free)) h.marks.taken)
+
+    pending_less : (after before : Bool) → before ≡ true → cond after 1 0 ≤ cond before 1 0
+    pending_less true true e = omega arith
+    pending_less false before e = omega arith
+    pending_less true false e = absurd (true≢false (sym e))
 
     none : n ≡ 0
     none = none_settled entries index next settled n h.keyed first
@@ -364,7 +385,14 @@ book-settle index tally settled_tally less more entries o rest room next settled
         );
         caught_up = subst (AllByRecursion (IsCaughtUp rest)) (sym changed)
             (caught-settle o rest entries h.queue.caught_up);
-        room = omega (arith, h.queue.room, length-set entries i (with_latest_settled x));
+        in_turn = all_set is_in_turn entries i (with_latest_settled x) (alike_in_turn (with_latest_settled x) refl)
+            h.queue.in_turn;
+        room = omega (
+          arith,
+          h.queue.room,
+          places_set entries i x inside is h.queue.in_turn (with_latest_settled x)
+              (pending_may x (turn_here entries i x inside is h.queue.in_turn)),
+        );
       };
       order = order_rest o rest next h.order;
       marks = subst (λ es. AreMarked es purge next) (sym changed)
@@ -444,7 +472,10 @@ book-purge index later tally settled_tally entries unsettled room next settled n
         counted = omega (arith, h.queue.counted, count-map is_waiting g entries (λ e. same is_waiting e refl));
         caught_up = each_map (IsCaughtUp unsettled) (IsCaughtUp unsettled) g entries
             (λ e p. marked_way (IsCaughtUp unsettled) seq moment e (λ kept done. p) (λ other. p)) h.queue.caught_up;
-        room = omega (arith, h.queue.room, length-map entries g);
+        in_turn = list_all-map is_in_turn g entries
+            ∙ all_weaker is_in_turn (λ e. is_in_turn (g e)) entries (λ e was. same is_in_turn e refl ∙ was)
+            h.queue.in_turn;
+        room = omega (arith, h.queue.room, count-map may_wait g entries (λ e. same may_wait e refl));
       };
       order = order_later unsettled next (seq + 1) (omega (arith, up)) h.order;
       marks = marks-purge entries purge after seq moment next h.marks up

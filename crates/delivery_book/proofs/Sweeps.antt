@@ -11,7 +11,7 @@ use Rattle.std.proofs.lemmas.List.Elements.{All-from_recursion, filter_more}
 use Rattle.std.proofs.lemmas.List.Filters.{sum_by-filter_both}
 use Rattle.std.proofs.lemmas.List.Folds.{list_any_none}
 use Rattle.std.proofs.lemmas.List.Kept.{AllPairs-filter}
-use Rattle.std.proofs.lemmas.List.Sums.{count_by-le-length, length-filter, list_all-from_AllPass, sum_by-cons}
+use Rattle.std.proofs.lemmas.List.Sums.{list_all-from_AllPass, sum_by-cons}
 use Rattle.std.proofs.lemmas.List.Sums.{sum_by_push}
 use Rattle.relay_types.specs.declared.state.State.{State}
 use Rattle.relay_types.specs.Deliveries.{is_in_state}
@@ -24,7 +24,8 @@ use Rattle.delivery_book.specs.Entries.{IsCaughtUp, entry_at, is_entry_as, is_ke
 use Rattle.delivery_book.specs.Fields.{AreFirst, AreInOrder, FirstBelow, HasCounted, HasMore, IsBook, KeepsRoom}
 use Rattle.delivery_book.specs.Fields.{RestFrom}
 use Rattle.delivery_book.specs.Fields.{counts_for, has_room, in_state, is_among, is_counted, is_known_as, is_later}
-use Rattle.delivery_book.specs.Fields.{is_numbered, is_rightly_taken, is_taken_below, is_waiting, one_of, settled_among}
+use Rattle.delivery_book.specs.Fields.{is_in_turn, is_numbered, is_rightly_taken, is_taken_below, is_waiting}
+use Rattle.delivery_book.specs.Fields.{may_wait, one_of, settled_among}
 use Rattle.delivery_book.proofs.Entries.{entry_at-found, first_below, get_or-any, is_below}
 use Rattle.delivery_book.proofs.Marks.{kept_left, left_before, order_from, taken_means}
 use Rattle.delivery_book.proofs.Updates.{all_at, all_weaker, counted_once}
@@ -382,12 +383,12 @@ module _ (entries : List Entry) (index : EventIndex) (tally settled_tally : Tall
           );
           caught_up = each-filter (IsCaughtUp unsettled) (is_left settled) entries
               (λ k d l is. All-from_recursion (IsCaughtUp unsettled) entries h.queue.caught_up k d l);
+          in_turn = all-filter is_in_turn (is_left settled) entries h.queue.in_turn;
           room = omega (
             arith,
             h.queue.room,
             enough,
-            length-filter (is_left settled) entries,
-            count_by-le-length (is_left settled) entries,
+            count_parts may_wait (is_left settled) entries,
           );
         };
         order = h.order;

@@ -1,6 +1,6 @@
 -- What ties the index, the counts and the room of a book to its entries.
-use Rattle.std.specs.Prelude.{◌≡◌, ℕ, ◌+◌, ◌^◌, ◌<◌, ◌≤◌, ◌&&◌, ◌==◌, not, Bool, true, false, nat_lt, nat_eq, List, ◌∷◌}
-use Rattle.std.specs.Prelude.{◌++◌}
+use Rattle.std.specs.Prelude.{◌≡◌, ℕ, ◌+◌, ◌^◌, ◌<◌, ◌≤◌, ◌&&◌, ◌||◌, ◌==◌, not, Bool, true, false, nat_lt, nat_eq, List}
+use Rattle.std.specs.Prelude.{◌∷◌, ◌++◌}
 use Rattle.std.specs.Prelude.{length, take, Option, Some, None, option_map, unwrap_or, is_some, slice_index_or}
 use Rattle.std.specs.Prelude.{filter, find, count_by, bytes_eq, All, AllPairs, IsTrue, if◌then◌else◌}
 use Rattle.std.specs.List.{AllByRecursion, list_all, list_any}
@@ -189,6 +189,14 @@ pub record AreNew (index : EventIndex) (events : List Entry) : Type 0 where
 abbrev pub is_waiting : Entry → Bool
 is_waiting entry = not (entry.latest.attempts == entry.settled.attempts)
 
+-- whether it is pending by the settled records, so that an outcome of it may wait
+abbrev pub may_wait : Entry → Bool
+may_wait entry = is_in_state Pending (state_in entry.settled)
+
+-- what is pending by all records is so by the settled ones, and what waits as well
+abbrev pub is_in_turn : Entry → Bool
+is_in_turn entry = may_wait entry || not (is_waiting entry || is_in_state Pending (state_in entry.latest))
+
 -- the outcome is one of an entry that stands before it, and no Purge took this before
 abbrev pub is_later : List Entry → Unsettled → Bool
 is_later entries o = is_of_left entries o && nat_lt o.delivery o.seq
@@ -242,7 +250,8 @@ pub record IsQueue (entries : List Entry) (unsettled : List Unsettled) (capacity
   pub later : IsTrue (list_all (is_later entries) unsettled)
   pub counted : length unsettled ≤ count_by is_waiting entries
   pub caught_up : AllByRecursion (IsCaughtUp unsettled) entries
-  pub room : length entries ≤ capacity
+  pub in_turn : IsTrue (list_all is_in_turn entries)
+  pub room : count_by may_wait entries ≤ capacity
 
 -- the outcomes that wait are in the order of their numbers, which are below this one
 pub record AreInOrder (unsettled : List Unsettled) (next_seq : Seq) : Type 0 where

@@ -1,6 +1,6 @@
 //! The book itself.
 ghost use Rattle.std.specs.Prelude.{◌≡◌, ◌≢◌, ◌≤◌, ◌<◌, ◌+◌, ℕ, [], length, take, true, None, Some, is_some};
-ghost use Rattle.std.specs.Prelude.{unwrap_or, slice_get};
+ghost use Rattle.std.specs.Prelude.{unwrap_or, slice_get, count_by};
 ghost use Rattle.std.specs.Prelude.{option_copied, option_map, All, AllPairs, IfSome, OnOk, OnErr};
 ghost use Rattle.relay_types.specs.declared.limits.TheConstants.{MAX_RECORDS};
 ghost use Rattle.relay_types.specs.declared.record.Record.TheVariants.{Accept, Outcome, Purge};
@@ -12,22 +12,25 @@ ghost use Rattle.delivery_book.specs.Entries.{without_taken, with_purge};
 ghost use Rattle.delivery_book.specs.Entries.{known_in, known_settled_in};
 ghost use Rattle.delivery_book.specs.Entries.{takes_outcome, may_restore, HasOneEach, IsInStep};
 ghost use Rattle.delivery_book.specs.Entries.{entry_at, latest_row, settled_row, pending_in, next_settled};
-ghost use Rattle.delivery_book.specs.Fields.{settled_counts};
+ghost use Rattle.delivery_book.specs.Fields.{may_wait, settled_counts};
 ghost use Rattle.delivery_book.specs.Book.{StandsFor, OverHistories, Takes, TakesAll, Settles, is_free, row_of};
 ghost use Rattle.delivery_book.specs.Book.{body_left, counts_of, counts_of_all};
 
 use crate::entry::{Entry, Unsettled};
 use crate::events::events_of;
 use crate::index::{EventIndex, add_events, remove_done};
-use crate::progress::Progress;
 use crate::purge::{earlier, first_purge, is_below, keep_left, mark_done};
 use crate::row::{Counts, Row};
 use crate::search::{count_below, entry_at, index_of};
+use crate::small::{KeptId, Names};
 use crate::tally::{Tally, add_settled, add_settled_between, count_out};
 use relay_types::{Body, MAX_RECORDS, Moment, MsgId, Name, State};
 use std::alloc::{AllocError, Global};
 use std::collections::VecDeque;
 use std::marker::Model;
+
+/// Room for so many outcomes that wait is never given back.
+const FEW_PLACES: usize = 256;
 
 /// The deliveries of a history, and what came of each. An event that was taken in stays in memory with its body until a
 /// Purge that took it is settled. Its id is known until a Purge takes it. A delivery is named by the sequence number of
@@ -37,6 +40,7 @@ use std::marker::Model;
 pub struct DeliveryBook {
     entries: Vec<Entry>,
     index: EventIndex,
+    names: Names,
     unsettled: VecDeque<Unsettled>,
     tally: Tally,
     settled_tally: Tally,
@@ -75,6 +79,7 @@ impl DeliveryBook {
         DeliveryBook {
             entries: Vec::new(alloc),
             index: EventIndex::new(alloc),
+            names: Names::new(alloc),
             unsettled: VecDeque::new(alloc),
             tally: Tally::new(alloc),
             settled_tally: Tally::new(alloc),
@@ -86,7 +91,8 @@ impl DeliveryBook {
     }
 
     /// Takes in the event of the record with this number, and makes the room that its outcomes need. `next_seq` and
-    /// `find` test the conditions; that the endpoint is there is the caller's to know. An error is want of memory.
+    /// `find` test the conditions; that the endpoint is there is the caller's to know. An error means that an
+    /// allocation failed.
     pub fn stage_accept(
         &mut self,
         seq: u64,
@@ -102,24 +108,18 @@ impl DeliveryBook {
         ensures stands { OnOk result (Takes self.old seq (Accept name id body at) self.new) }
         ensures unchanged { OnErr result (self.new ≡ self.old) }
     {
+        let alloc = *self.entries.allocator();
+        let places = self.places();
+        let name = self.names.share(name)?;
+        let id = KeptId::new(alloc, &id)?;
+        let event = Entry::new(seq, name, id, body, at);
         self.entries.reserve(1)?;
-        let spare = self.entries.len() + 1 - self.unsettled.len();
-        self.unsettled.reserve(spare)?;
-        self.tally.open(name)?;
-        self.settled_tally.open(name)?;
-        self.index.insert(name, &id, seq)?;
-        self.tally.add(name, State::Pending);
-        let fresh = Progress::fresh(at);
-        self.entries.push_reserved(Entry {
-            seq,
-            name,
-            id,
-            body,
-            at,
-            latest: fresh,
-            settled: fresh,
-            taken_by: None,
-        });
+        self.unsettled.reserve(places + 1 - self.unsettled.len())?;
+        self.tally.open(&event.name)?;
+        self.settled_tally.open(&event.name)?;
+        self.index.insert(&event.name, &event.id, seq)?;
+        self.tally.add(&event.name, State::Pending);
+        self.entries.push_reserved(event);
         self.next_seq = seq + 1;
         Ok(())
     }
@@ -144,11 +144,12 @@ impl DeliveryBook {
         ensures unchanged { OnErr result (self.new ≡ self.old) }
     {
         let alloc = *self.entries.allocator();
-        let mut events = events_of(alloc, seq, names, id, body, at)?;
+        let places = self.places();
+        let mut events = events_of(alloc, &mut self.names, seq, names, &id, body, at)?;
         let count = events.len();
         self.entries.reserve(count)?;
-        let spare = self.entries.len() + count - self.unsettled.len();
-        self.unsettled.reserve(spare)?;
+        self.unsettled
+            .reserve(places + count - self.unsettled.len())?;
         self.tally.open_all(&events)?;
         self.settled_tally.open_all(&events)?;
         add_events(&mut self.index, &events)?;
@@ -169,12 +170,11 @@ impl DeliveryBook {
         ensures stands { (attempt : ℕ) → Takes self.old seq (Outcome delivery attempt status at) self.new }
     {
         let index = index_of(&self.entries, delivery);
-        let name = self.entries[index].name;
-        let before = self.entries[index].latest;
-        let after = before.after(status, at);
-        self.entries[index].latest = after;
-        self.tally.remove(name, before.state());
-        self.tally.add(name, after.state());
+        let entry = &mut self.entries[index];
+        let before = entry.latest.state();
+        entry.latest = entry.latest.after(status, at);
+        self.tally.remove(&entry.name, before);
+        self.tally.add(&entry.name, entry.latest.state());
         self.unsettled
             .push_back_reserved(Unsettled { seq, delivery });
         self.next_seq = seq + 1;
@@ -204,14 +204,12 @@ impl DeliveryBook {
     {
         let index = index_of(&self.entries, delivery);
         let entry = &mut self.entries[index];
-        let name = entry.name;
         let before = entry.latest.state();
         let after = entry.latest.after(status, at);
         entry.latest = after;
         entry.settled = after;
-        let state = after.state();
-        self.tally.remove(name, before);
-        self.tally.add(name, state);
+        self.tally.remove(&entry.name, before);
+        self.tally.add(&entry.name, after.state());
     }
 
     /// The records below this number are settled from now on. What Purges among them took is given up. It takes no
@@ -226,6 +224,7 @@ impl DeliveryBook {
         if is_below(self.next_purge, seq) {
             self.give_up_taken();
         }
+        self.give_back_places();
     }
 
     /// Gives up the deliveries that settled Purges took, with their bodies.
@@ -239,6 +238,26 @@ impl DeliveryBook {
         keep_left(&mut self.entries, seq);
         self.settled_entries = count_below(&self.entries, seq);
         self.next_purge = first_purge(&self.entries);
+    }
+
+    /// How many outcomes may come to wait: one of each delivery that isn't settled, or pending by the settled records.
+    fn places(&self) -> usize
+        ensures enough { count_by may_wait self.now.entries ≤ result }
+        ensures held { length self.now.unsettled ≤ result }
+        ensures few { result ≤ length self.now.entries }
+    {
+        let pending = self.settled_tally.all().pending as usize;
+        self.entries.len() - self.settled_entries + pending
+    }
+
+    /// Gives room for outcomes back, of which there is more than four times what may come to wait.
+    fn give_back_places(&mut self)
+        ensures { self.new ≡ self.old }
+    {
+        let places = self.places().max(FEW_PLACES);
+        if self.unsettled.capacity() / 4 > places {
+            self.unsettled.shrink_to(places);
+        }
     }
 
     /// Counts the events below this number as settled, as far as their settled outcomes have brought them.
@@ -269,12 +288,11 @@ impl DeliveryBook {
         };
         let _ = self.unsettled.pop_front();
         let index = index_of(&self.entries, delivery);
-        let name = self.entries[index].name;
-        let before = self.entries[index].settled;
-        let after = self.entries[index].latest;
-        self.entries[index].settled = after;
-        self.settled_tally.remove(name, before.state());
-        self.settled_tally.add(name, after.state());
+        let entry = &mut self.entries[index];
+        let before = entry.settled.state();
+        entry.settled = entry.latest;
+        self.settled_tally.remove(&entry.name, before);
+        self.settled_tally.add(&entry.name, entry.settled.state());
         true
     }
 

@@ -1,9 +1,11 @@
 //! What the book keeps of one event.
-ghost use Rattle.std.specs.Prelude.{◌≡◌, ◌&&◌, Some, None, if◌then◌else◌};
-ghost use Rattle.delivery_book.specs.Entries.{is_done_before, is_entry_as, is_kept, is_left, is_open, marked, row_in};
+ghost use Rattle.std.specs.Prelude.{◌≡◌, ◌+◌, ◌<◌, ◌^◌, ◌&&◌, Some, None, if◌then◌else◌};
+ghost use Rattle.delivery_book.specs.Entries.{is_done_before, is_entry_as, is_kept, is_left, is_open, marked};
+ghost use Rattle.delivery_book.specs.Entries.{new_entry, row_in};
 
 use crate::progress::Progress;
 use crate::row::Row;
+use crate::small::{KeptId, Mark, SharedName};
 use relay_types::{Body, Moment, MsgId, Name, State};
 
 /// An event that was taken in, by the record with this number, and what came of it: by all records, and by the settled
@@ -11,17 +13,34 @@ use relay_types::{Body, Moment, MsgId, Name, State};
 #[derive(Drop)]
 pub struct Entry {
     pub(crate) seq: u64,
-    pub(crate) name: Name,
-    pub(crate) id: MsgId,
+    pub(crate) name: SharedName,
+    pub(crate) id: KeptId,
     pub(crate) body: Body,
     pub(crate) at: Moment,
     pub(crate) latest: Progress,
     pub(crate) settled: Progress,
     /// The Purge that took the delivery, while it waits to be settled.
-    pub(crate) taken_by: Option<u64>,
+    pub(crate) taken_by: Mark,
 }
 
 impl Entry {
+    /// That of an event which the record with this number takes in.
+    pub(crate) fn new(seq: u64, name: SharedName, id: KeptId, body: Body, at: Moment) -> Entry
+        ensures { result ≡ new_entry seq name id body at }
+    {
+        let fresh = Progress::fresh(at);
+        Entry {
+            seq,
+            name,
+            id,
+            body,
+            at,
+            latest: fresh,
+            settled: fresh,
+            taken_by: Mark::none(),
+        }
+    }
+
     /// Whether the delivery is pending, and none of its outcomes waits to be settled.
     pub(crate) fn is_open(&self) -> bool
         ensures { result ≡ is_open self.now }
@@ -34,14 +53,14 @@ impl Entry {
     pub(crate) fn is_kept(&self) -> bool
         ensures { result ≡ is_kept self.now }
     {
-        self.taken_by.is_none()
+        self.taken_by.get().is_none()
     }
 
     /// Whether no Purge below this number took the delivery.
     pub(crate) fn is_left(&self, seq: u64) -> bool
         ensures { result ≡ is_left seq self.now }
     {
-        match self.taken_by {
+        match self.taken_by.get() {
             Some(purge) => seq <= purge,
             None => true,
         }
@@ -56,10 +75,11 @@ impl Entry {
 
     /// The Purge of this number takes the delivery, if it is kept and has ended by an attempt before this moment.
     pub(crate) fn mark(&mut self, seq: u64, moment: Moment)
+        requires { seq + 1 < 2 ^ 64 }
         ensures { self.new ≡ marked seq moment self.old }
     {
         if self.is_done_before(moment) {
-            self.taken_by = Some(seq);
+            self.taken_by = Mark::of(seq);
         }
     }
 
@@ -78,7 +98,7 @@ impl Entry {
     pub(crate) fn is_event(&self, name: Name, id: &MsgId) -> bool
         ensures { result ≡ is_entry_as name id.now self.now }
     {
-        self.name.is(name) && self.id.is(*id)
+        self.name.get().is(name) && self.id.as_bytes() == id.as_bytes()
     }
 
     /// The delivery as told where it has come this far.
@@ -86,8 +106,8 @@ impl Entry {
         ensures { result ≡ row_in progress self.now }
     {
         Row {
-            endpoint: self.name,
-            id: self.id,
+            endpoint: self.name.get(),
+            id: self.id.get(),
             at: self.at,
             attempts: progress.attempts(),
             state: progress.state(),

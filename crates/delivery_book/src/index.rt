@@ -1,11 +1,12 @@
 //! The index of events by endpoint and id.
-ghost use Rattle.std.specs.Prelude.{◌≡◌, ◌&&◌, None, Some, filter, OnErr, OnOk};
-ghost use Rattle.relay_types.specs.Values.{Text};
+ghost use Rattle.std.specs.Prelude.{◌≡◌, ◌&&◌, None, Some, filter, IsTrue, OnErr, OnOk};
+ghost use Rattle.relay_types.specs.Values.{Text, is_msg_id};
 ghost use Rattle.delivery_book.specs.Entries.{is_kept, is_done_before};
 ghost use Rattle.delivery_book.specs.Fields.{AreNew, HasLessKeys, HasMoreKeys, HasNumber, HasSameKeys, key_bytes};
 ghost use Rattle.delivery_book.specs.Fields.{number_of};
 
 use crate::entry::Entry;
+use crate::small::{KeptId, SharedName};
 use arrayvec::ArrayVec;
 use relay_types::{MAX_ID_LEN, MAX_NAME_LEN, Moment, MsgId, Name};
 use std::alloc::{AllocError, Global};
@@ -16,14 +17,15 @@ const MAX_KEY_BYTES: usize = 1 + MAX_NAME_LEN + MAX_ID_LEN;
 
 /// The key of an event: the length of the endpoint's name as one byte, the name, and the id. So no
 /// two events have one key.
-fn key_of(name: Name, id: &MsgId) -> ArrayVec<u8, MAX_KEY_BYTES>
+fn key_of(name: Name, id: &[u8]) -> ArrayVec<u8, MAX_KEY_BYTES>
+    requires { IsTrue (is_msg_id id.now) }
     ensures { result.items ≡ key_bytes name id.now }
 {
     let name = name.as_bytes();
     let mut key = ArrayVec::new();
     key.push(name.len() as u8);
     key.try_extend_from_slice(name).unwrap();
-    key.try_extend_from_slice(id.as_bytes()).unwrap();
+    key.try_extend_from_slice(id).unwrap();
     key
 }
 
@@ -50,24 +52,33 @@ impl EventIndex {
     pub(crate) fn get(&self, name: Name, id: &MsgId) -> Option<u64>
         ensures { result ≡ number_of self.now name id.now }
     {
-        self.numbers.get(key_of(name, id).as_slice()).copied()
+        self.numbers
+            .get(key_of(name, id.as_bytes()).as_slice())
+            .copied()
     }
 
-    /// Adds the number of the endpoint's event with this id. An error is want of memory.
-    pub(crate) fn insert(&mut self, name: Name, id: &MsgId, seq: u64) -> Result<(), AllocError>
-        ensures added { OnOk result (HasNumber self.old name id.now (Some seq) self.new) }
+    /// Adds the number of the endpoint's event with this id. An error means that an allocation failed.
+    pub(crate) fn insert(
+        &mut self,
+        name: &SharedName,
+        id: &KeptId,
+        seq: u64,
+    ) -> Result<(), AllocError>
+        ensures added { OnOk result (HasNumber self.old name.now id.now (Some seq) self.new) }
         ensures unchanged { OnErr result (HasSameKeys self.old self.new) }
     {
-        let key = BoxedSlice::from_slice(self.alloc, key_of(name, id).as_slice())?;
+        let bytes = key_of(name.get(), id.as_bytes());
+        let key = BoxedSlice::from_slice(self.alloc, bytes.as_slice())?;
         self.numbers.insert(key, seq)?;
         Ok(())
     }
 
     /// Removes the number of the endpoint's event with this id. It takes no memory.
-    fn remove(&mut self, name: Name, id: &MsgId)
-        ensures { HasNumber self.old name id.now None self.new }
+    fn remove(&mut self, name: &SharedName, id: &KeptId)
+        ensures { HasNumber self.old name.now id.now None self.new }
     {
-        let _ = self.numbers.remove(key_of(name, id).as_slice());
+        let key = key_of(name.get(), id.as_bytes());
+        let _ = self.numbers.remove(key.as_slice());
     }
 }
 
@@ -79,7 +90,7 @@ pub(crate) fn add_events(index: &mut EventIndex, events: &[Entry]) -> Result<(),
 {
     for place in 0..events.len() {
         let event = &events[place];
-        if index.insert(event.name, &event.id, event.seq).is_err() {
+        if index.insert(&event.name, &event.id, event.seq).is_err() {
             remove_events(index, &events[..place]);
             return Err(AllocError);
         }
@@ -92,7 +103,7 @@ fn remove_events(index: &mut EventIndex, events: &[Entry])
     ensures { HasLessKeys index.old events.now index.new }
 {
     for event in events {
-        index.remove(event.name, &event.id);
+        index.remove(&event.name, &event.id);
     }
 }
 
@@ -103,7 +114,7 @@ pub(crate) fn remove_done(index: &mut EventIndex, entries: &[Entry], moment: Mom
 {
     for entry in entries {
         if entry.is_done_before(moment) {
-            index.remove(entry.name, &entry.id);
+            index.remove(&entry.name, &entry.id);
         }
     }
 }

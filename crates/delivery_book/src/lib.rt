@@ -10,6 +10,7 @@ mod progress;
 mod purge;
 mod row;
 mod search;
+mod small;
 mod tally;
 mod theorems;
 

@@ -1,5 +1,5 @@
 //! What a Purge takes, and gives up.
-ghost use Rattle.std.specs.Prelude.{◌≡◌, true, false, nat_lt, map, filter};
+ghost use Rattle.std.specs.Prelude.{◌≡◌, ◌+◌, ◌<◌, ◌^◌, true, false, nat_lt, map, filter};
 ghost use Rattle.std.specs.Option.{option_map_or};
 ghost use Rattle.delivery_book.specs.declared.entry.Entry.{Entry};
 ghost use Rattle.delivery_book.specs.Entries.{is_left, marked};
@@ -10,6 +10,7 @@ use relay_types::Moment;
 
 /// Has the Purge of this number take each delivery that has ended by an attempt before this moment.
 pub(crate) fn mark_done(entries: &mut [Entry], seq: u64, moment: Moment)
+    requires { seq + 1 < 2 ^ 64 }
     ensures { entries.new ≡ map (marked seq moment) entries.old }
 {
     for entry in entries.iter_mut() {
@@ -23,7 +24,7 @@ pub(crate) fn first_purge(entries: &[Entry]) -> Option<u64>
 {
     let mut first = None;
     for entry in entries {
-        first = earlier(first, entry.taken_by);
+        first = earlier(first, entry.taken_by.get());
     }
     first
 }

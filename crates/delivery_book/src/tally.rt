@@ -11,6 +11,7 @@ ghost use Rattle.delivery_book.specs.Fields.{is_taken_below};
 use crate::entry::Entry;
 use crate::keys::EndpointKey;
 use crate::row::Counts;
+use crate::small::SharedName;
 use relay_types::{Name, State};
 use std::alloc::{AllocError, Global};
 use std::collections::HashMap;
@@ -94,11 +95,12 @@ impl Tally {
     }
 
     /// Makes room for the endpoint, so that its deliveries are then counted with no more memory.
-    pub(crate) fn open(&mut self, name: Name) -> Result<(), AllocError>
+    pub(crate) fn open(&mut self, name: &SharedName) -> Result<(), AllocError>
         ensures same { HasSame self.old self.new }
-        ensures opened { OnOk result (has_room self.new name ≡ true) }
+        ensures opened { OnOk result (has_room self.new name.now ≡ true) }
         ensures stays { KeepsRoom self.old self.new }
     {
+        let name = name.get();
         let counts = self.of(name);
         self.each.insert(EndpointKey { name }, counts)?;
         Ok(())
@@ -111,30 +113,32 @@ impl Tally {
         ensures stays { KeepsRoom self.old self.new }
     {
         for entry in entries {
-            self.open(entry.name)?;
+            self.open(&entry.name)?;
         }
         Ok(())
     }
 
     /// Counts one more delivery of the endpoint, in this state.
-    pub(crate) fn add(&mut self, name: Name, state: State)
-        requires opened { has_room self.old name ≡ true }
-        requires room { AtCounts self.old name state (λ n. n + 1 < 2 ^ 64) }
-        ensures more { HasMore self.old (one_of name state) self.new }
+    pub(crate) fn add(&mut self, name: &SharedName, state: State)
+        requires opened { has_room self.old name.now ≡ true }
+        requires room { AtCounts self.old name.now state (λ n. n + 1 < 2 ^ 64) }
+        ensures more { HasMore self.old (one_of name.now state) self.new }
         ensures stays { KeepsRoom self.old self.new }
     {
+        let name = name.get();
         let counts = with_one_more(self.of(name), state);
         let _ = self.each.insert(EndpointKey { name }, counts);
         self.all = with_one_more(self.all, state);
     }
 
     /// Counts one delivery less of the endpoint, in this state.
-    pub(crate) fn remove(&mut self, name: Name, state: State)
-        requires known { AtCounts self.old name state (λ n. 0 < n) }
-        ensures less { HasMore self.new (one_of name state) self.old }
-        ensures opened { has_room self.new name ≡ true }
+    pub(crate) fn remove(&mut self, name: &SharedName, state: State)
+        requires known { AtCounts self.old name.now state (λ n. 0 < n) }
+        ensures less { HasMore self.new (one_of name.now state) self.old }
+        ensures opened { has_room self.new name.now ≡ true }
         ensures stays { KeepsRoom self.old self.new }
     {
+        let name = name.get();
         let counts = with_one_less(self.of(name), state);
         let _ = self.each.insert(EndpointKey { name }, counts);
         self.all = with_one_less(self.all, state);
@@ -149,7 +153,7 @@ pub(crate) fn add_settled(tally: &mut Tally, entries: &[Entry])
     ensures stays { KeepsRoom tally.old tally.new }
 {
     for entry in entries {
-        tally.add(entry.name, entry.settled.state());
+        tally.add(&entry.name, entry.settled.state());
     }
 }
 
@@ -173,7 +177,7 @@ pub(crate) fn count_out(tally: &mut Tally, entries: &[Entry], seq: u64)
 {
     for entry in entries {
         if !entry.is_left(seq) {
-            tally.remove(entry.name, entry.settled.state());
+            tally.remove(&entry.name, entry.settled.state());
         }
     }
 }

@@ -1,4 +1,4 @@
-use Rattle.std.proofs.Common.{◌∙◌, ap, sym, take}
+use Rattle.std.proofs.Common.{◌≡◌, ◌∙◌, true, ap, subst, sym, take}
 use Rattle.std.proofs.lemmas.List.Folds.{list_all_more}
 use Rattle.relay_types.proofs.KnownLaws.{and_both}
 use Rattle.delivery_book.specs.declared.entry.Entry.{Entry}
@@ -16,4 +16,5 @@ loop-entry-preserved c =
     ∙ and_both _ _
     (all_weaker (is_not_before l.first) (is_not_before later) (take l.entry-index c.args.entries.now)
     (λ x is. c.earlier-first.ensures.first x is) l.invariant)
-    (ap (is_not_before later) (sym c.entry-item.is) ∙ c.earlier-first.ensures.second e (own_first e))
+    (ap (is_not_before later) (sym c.entry-item.is)
+    ∙ c.earlier-first.ensures.second e (subst (λ o. is_not_before o e ≡ true) (sym c.get.ensures) (own_first e)))

@@ -12,12 +12,12 @@ none Exhausted = refl
 pub invariant_of-result : goal.invariant_of-result
 invariant_of-result c =
     subst
-    (λ es. IsBook es c.new-2.result c.new-4.result c.new-5.result c.new-3.result.items (deque_capacity c.new-3.result)
+    (λ es. IsBook es c.new-2.result c.new-5.result c.new-6.result c.new-4.result.items (deque_capacity c.new-4.result)
     0 0 0 None)
     (sym c.new.ensures.items)
     (subst
-    (λ us. IsBook [] c.new-2.result c.new-4.result c.new-5.result us (deque_capacity c.new-3.result) 0 0 0 None)
-    (sym c.new-3.ensures.items)
+    (λ us. IsBook [] c.new-2.result c.new-5.result c.new-6.result us (deque_capacity c.new-4.result) 0 0 0 None)
+    (sym c.new-4.ensures.items)
     (record {
       keyed = record {
         ascending = λ i j d lt m. absurd (omega (arith, m));
@@ -28,10 +28,10 @@ invariant_of-result c =
         settled_below = λ k d m. absurd (omega (arith, m));
         settled_above = λ k d from m. absurd (omega (arith, m));
       };
-      latest = λ those asked. ap (in_state asked) (c.new-4.ensures those) ∙ none asked;
-      settled = λ those asked. ap (in_state asked) (c.new-5.ensures those) ∙ none asked;
+      latest = λ those asked. ap (in_state asked) (c.new-5.ensures those) ∙ none asked;
+      settled = λ those asked. ap (in_state asked) (c.new-6.ensures those) ∙ none asked;
       opened = refl;
-      queue = record { later = refl; counted = omega arith; caught_up = tt; room = omega arith };
+      queue = record { later = refl; counted = omega arith; caught_up = tt; in_turn = refl; room = omega arith };
       order = record { rising = λ i j d lt m. absurd (omega (arith, m)); below = refl };
       marks = record { apart = λ i j d lt m. absurd (omega (arith, m)); taken = refl; first = refl };
     }))

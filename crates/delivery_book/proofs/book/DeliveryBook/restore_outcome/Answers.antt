@@ -29,7 +29,7 @@ invariant_of-self c =
     (sym c.state-before.ensures) ∙ sym (c.remove.ensures.less those asked))
     (λ those asked. c.add.ensures.more those asked
     ∙ ap (λ s. in_state asked (counts_for c.remove.new.self those) + one_of x.name s those asked)
-    (c.state-state.ensures ∙ ap state_in c.after-after.ensures)))
+    (c.state.ensures ∙ ap state_in c.after-after.ensures)))
 
 pub returns : goal.returns
 returns c =

@@ -6,6 +6,7 @@ use Rattle.delivery_book.specs.Book.{StandsFor}
 use Rattle.delivery_book.proofs.Settling.{stepped_on, all_settled, looped, swept, unswept}
 use Rattle.delivery_book.proofs.Laws.{stands_settled}
 use Rattle.delivery_book.proofs.book.DeliveryBook.settle_to.Goals as goal
+use Rattle.delivery_book.proofs.book.DeliveryBook.settle_to.Goals.{then-is_below, else-is_below}
 
 pub loop-preserved : goal.loop-preserved
 loop-preserved c = (stepped_on c.loop.self c.settle_outcome.new.self (sym c.settle_outcome.ensures.told
@@ -23,36 +24,24 @@ give_up_taken-requires c =
           c.settle_outcome.ensures.value);
     }
 
-settled_with : (c : goal.After-give_up_taken) → c.give_up_taken.new.self ≡ with_settled c.args.self.now c.args.seq
-settled_with c =
-    c.give_up_taken.ensures
-    ∙ swept c.args.self.now c.settle_outcome.new.self c.args.seq
-    (looped c.args.self.now c.settle_events.new.self c.loop.self c.settle_outcome.new.self c.args.seq
+pub returns : goal.returns
+returns c =
+    let settled = looped c.args.self.now c.settle_events.new.self c.loop.self c.settle_outcome.new.self c.args.seq
     c.settle_events.ensures c.loop.invariant (sym c.settle_outcome.ensures.told ∙ c.loop-test.false)
-    c.settle_outcome.ensures.value)
-
-settled_without : (c : goal.Else-is_below) → c.settle_outcome.new.self ≡ with_settled c.args.self.now c.args.seq
-settled_without c =
-    unswept c.args.self.now c.settle_outcome.new.self c.args.seq c.self.inside.next_purge
-    (looped c.args.self.now c.settle_events.new.self c.loop.self c.settle_outcome.new.self c.args.seq
-    c.settle_events.ensures c.loop.invariant (sym c.settle_outcome.ensures.told ∙ c.loop-test.false)
-    c.settle_outcome.ensures.value)
-    (sym c.is_below.ensures ∙ c.if-is_below.false)
-    (subst (λ (b : BookValue). list_all (is_not_before c.self.inside.next_purge) b.entries ≡ true) c.self.view_is
-    c.self.invariant.marks.first)
-
-pub returns-then-is_below-clause-value : goal.returns-then-is_below-clause-value
-returns-then-is_below-clause-value c = settled_with c
-
-pub returns-else-is_below-clause-value : goal.returns-else-is_below-clause-value
-returns-else-is_below-clause-value c = settled_without c
-
-pub returns-then-is_below-clause-stands : goal.returns-then-is_below-clause-stands
-returns-then-is_below-clause-stands c = λ records settled h l.
-    subst (λ b. StandsFor b records c.args.seq) (sym (settled_with c))
-    (stands_settled c.args.self.now records settled c.args.seq h c.requires l)
-
-pub returns-else-is_below-clause-stands : goal.returns-else-is_below-clause-stands
-returns-else-is_below-clause-stands c = λ records settled h l.
-    subst (λ b. StandsFor b records c.args.seq) (sym (settled_without c))
-    (stands_settled c.args.self.now records settled c.args.seq h c.requires l)
+    c.settle_outcome.ensures.value in
+    let value : c.give_back_places.new.self ≡ with_settled c.args.self.now c.args.seq =
+    c.give_back_places.ensures ∙ elim c.if-is_below.branch [
+      | then-is_below w ↦
+          w.self-is ∙ w.give_up_taken.ensures ∙ swept c.args.self.now c.settle_outcome.new.self c.args.seq settled
+      | else-is_below w ↦
+          w.self-is
+          ∙ unswept c.args.self.now c.settle_outcome.new.self c.args.seq c.self.inside.next_purge settled
+          (sym c.is_below.ensures ∙ w.if-is_below.false)
+          (subst (λ (b : BookValue). list_all (is_not_before c.self.inside.next_purge) b.entries ≡ true) c.self.view_is
+          c.self.invariant.marks.first)
+    ] in
+    record {
+      value = value;
+      stands = λ records settled h l. subst (λ b. StandsFor b records c.args.seq) (sym value)
+          (stands_settled c.args.self.now records settled c.args.seq h c.requires l);
+    }

@@ -1,13 +1,14 @@
 use Rattle.std.proofs.Common.{◌≡◌, ◌+◌, ◌++◌, ◌∙◌, Bool, true, List, ap, arith, get_or, length, refl, sym, subst, cond}
 use Rattle.std.proofs.Common.{deque_capacity}
-use Rattle.std.specs.Prelude.{is_ok}
+use Rattle.std.specs.Prelude.{count_by, is_ok}
 use Rattle.std.proofs.lemmas.List.{length-map}
 use Rattle.std.proofs.lemmas.List.Sums.{count_by-le-length}
 use Rattle.relay_types.specs.declared.record.Record.TheVariants.{Accept}
 use Rattle.relay_types.specs.Steps.{accepts}
 use Rattle.delivery_book.specs.declared.entry.Entry.{Entry}
 use Rattle.delivery_book.specs.Entries.{events_from, known_in}
-use Rattle.delivery_book.specs.Fields.{AreNew, HasMoreKeys, HasRoomForAll, IsBook, in_state, is_counted, settled_among}
+use Rattle.delivery_book.specs.Fields.{AreNew, HasMoreKeys, HasRoomForAll, IsBook, in_state, is_counted, may_wait}
+use Rattle.delivery_book.specs.Fields.{settled_among}
 use Rattle.delivery_book.specs.Book.{StandsFor}
 use Rattle.delivery_book.proofs.Books.{book-append, book-same}
 use Rattle.delivery_book.proofs.EventEntries.{length-made, made_from, made_new}
@@ -59,7 +60,7 @@ invariant_of-self-in_err-open_all-2 c =
     b.unsettled.items (deque_capacity b.unsettled) (deque_capacity c.reserve-2.new.self) b.next_seq b.settled_seq
     b.settled_entries b.next_purge c.self.invariant (λ name id. refl) (λ those. c.in_ok-open_all.ensures.same those)
     (λ those. c.in_err-open_all-2.ensures.same those) (λ asked is. c.in_err-open_all-2.ensures.stays asked is)
-    c.in_ok-reserve-2.ensures.capacity))
+    (omega (arith, c.self.invariant.queue.room, c.in_ok-reserve-2.ensures.capacity))))
 
 pub invariant_of-self-in_err-add_events : goal.invariant_of-self-in_err-add_events
 invariant_of-self-in_err-add_events c =
@@ -76,7 +77,8 @@ invariant_of-self-in_err-add_events c =
     b.entries.items b.unsettled.items (deque_capacity b.unsettled) (deque_capacity c.reserve-2.new.self) b.next_seq
     b.settled_seq b.settled_entries b.next_purge c.self.invariant (λ k. c.in_err-add_events.ensures.unchanged k)
     (λ those. c.in_ok-open_all.ensures.same those) (λ those. c.in_ok-open_all-2.ensures.same those)
-    (λ asked is. c.in_ok-open_all-2.ensures.stays asked is) c.in_ok-reserve-2.ensures.capacity))
+    (λ asked is. c.in_ok-open_all-2.ensures.stays asked is)
+    (omega (arith, c.self.invariant.queue.room, c.in_ok-reserve-2.ensures.capacity))))
 
 pub invariant_of-self-2 : goal.invariant_of-self-2
 invariant_of-self-2 c =
@@ -122,8 +124,8 @@ invariant_of-self-2 c =
       c.in_ok-reserve-2.ensures.ok,
       c.in_ok-reserve-2.ensures.len,
       c.len.ensures,
-      c.len-2.ensures,
-      c.in_ok-reserve.ensures.len,
+      ap (λ v. count_by may_wait v.entries) c.self.view_is,
+      c.places-places.ensures.enough,
       count,
     )))))
 

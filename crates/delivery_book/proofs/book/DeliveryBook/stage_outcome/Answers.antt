@@ -2,14 +2,13 @@ use Rattle.std.proofs.Common.{◌≡◌, ◌++◌, ◌∷◌, [], ◌+◌, ◌�
 use Rattle.std.proofs.Common.{deque_capacity}
 use Rattle.std.specs.Option.{option_map_or}
 use Rattle.relay_types.specs.declared.record.Record.TheVariants.{Outcome}
-use Rattle.delivery_book.specs.declared.entry.Entry.{Entry}
 use Rattle.delivery_book.specs.Entries.{BookValue, with_attempt, at_delivery, entry_at, takes_outcome, is_open}
 use Rattle.delivery_book.specs.Entries.{state_in, progress_after}
 use Rattle.delivery_book.specs.Fields.{IsBook, is_numbered, in_state, counts_for, one_of}
 use Rattle.delivery_book.specs.Book.{StandsFor}
 use Rattle.delivery_book.proofs.Books.{below}
 use Rattle.delivery_book.proofs.Entries.{entry_at-none}
-use Rattle.delivery_book.proofs.Updates.{all_at, found_in, read_same, set_is}
+use Rattle.delivery_book.proofs.Updates.{all_at, found_in, set_is}
 use Rattle.delivery_book.proofs.Outcomes.{book-outcome, room_for}
 use Rattle.delivery_book.proofs.Laws.{stands_outcome}
 use Rattle.delivery_book.proofs.book.DeliveryBook.stage_outcome.Goals as goal
@@ -18,16 +17,16 @@ pub push_back_reserved-requires : goal.push_back_reserved-requires
 push_back_reserved-requires c =
     let a = c.args in
     let b = c.self.inside in
-    let x = c.index_mut.result.now in
+    let x = c.index_mut-entry.result.now in
     let found = c.index_of-index.ensures in
     let there = found_in c.deref.result.now b.entries.items c.index_of-index.result a.delivery x c.deref.ensures.value
-    found.within (λ d. found.found d) (λ d. found.number d) c.index_mut.ensures.value in
+    found.within (λ d. found.found d) (λ d. found.number d) c.index_mut-entry.ensures.value in
     let free : is_open x ≡ true = sym (ap (λ o. option_map_or is_open o false) there.2)
     ∙ ap (λ v. takes_outcome v a.delivery) c.self.view_is ∙ c.requires.free in
     omega (
       arith,
       room_for b.entries.items b.unsettled.items (deque_capacity b.unsettled) c.index_of-index.result x
-          c.self.invariant.queue there.0 c.index_mut.ensures.value free,
+          c.self.invariant.queue there.0 c.index_mut-entry.ensures.value free,
     )
 
 pub invariant_of-self : goal.invariant_of-self
@@ -35,18 +34,13 @@ invariant_of-self c =
     let a = c.args in
     let b = c.self.inside in
     let i = c.index_of-index.result in
-    let x = c.index_mut.result.now in
+    let x = c.index_mut-entry.result.now in
     let found = c.index_of-index.ensures in
     let there = found_in c.deref.result.now b.entries.items i a.delivery x c.deref.ensures.value found.within
-    (λ d. found.found d) (λ d. found.number d) c.index_mut.ensures.value in
+    (λ d. found.found d) (λ d. found.number d) c.index_mut-entry.ensures.value in
     let free : is_open x ≡ true = sym (ap (λ o. option_map_or is_open o false) there.2)
     ∙ ap (λ v. takes_outcome v a.delivery) c.self.view_is ∙ c.requires.free in
-    let first : c.index.result.now ≡ x = read_same b.entries.items i c.index.result.now x there.0 c.index.ensures
-    c.index_mut.ensures.value in
-    let second : c.index-2.result.now ≡ x = read_same b.entries.items i c.index-2.result.now x there.0 c.index-2.ensures
-    c.index_mut.ensures.value in
-    let after : c.after-after.result ≡ progress_after a.status a.at x.latest = c.after-after.ensures
-    ∙ ap (λ (y : Entry). progress_after a.status a.at y.latest) second in
+    let after : c.after-entry.result ≡ progress_after a.status a.at x.latest = c.after-entry.ensures in
     subst
     (λ latest. IsBook (set b.entries.items i (record x { latest = latest })) b.index c.add.new.self b.settled_tally
     c.push_back_reserved.new.self.items (deque_capacity c.push_back_reserved.new.self) (a.seq + 1) b.settled_seq
@@ -64,14 +58,13 @@ invariant_of-self c =
     (book-outcome b.index b.tally c.remove.new.self c.add.new.self b.settled_tally b.entries.items b.unsettled.items
     (deque_capacity b.unsettled) b.next_seq b.settled_seq b.settled_entries b.next_purge a.seq a.delivery a.status
     a.at i x c.self.invariant
-    (omega (arith, c.requires.above, ap (λ v. v.next_seq) c.self.view_is)) there.0 c.index_mut.ensures.value there.1
-    free
-    (λ those asked. (λ j. in_state asked (counts_for c.remove.new.self those) + one_of (sym first j).name
-    ((ap (λ (y : Entry). state_in y.latest) (sym second) ∙ sym c.state.ensures) j) those asked)
-    ∙ sym (c.remove.ensures.less those asked))
+    (omega (arith, c.requires.above, ap (λ v. v.next_seq) c.self.view_is)) there.0
+    c.index_mut-entry.ensures.value there.1 free
+    (λ those asked. ap (λ s. in_state asked (counts_for c.remove.new.self those) + one_of x.name s those asked)
+    (sym c.state-before.ensures) ∙ sym (c.remove.ensures.less those asked))
     (λ those asked. c.add.ensures.more those asked
-    ∙ (λ j. in_state asked (counts_for c.remove.new.self those) + one_of (first j).name
-    ((c.state-2.ensures ∙ ap state_in after) j) those asked)))))
+    ∙ ap (λ s. in_state asked (counts_for c.remove.new.self those) + one_of x.name s those asked)
+    (c.state.ensures ∙ ap state_in after)))))
 
 pub returns-clause-unused : goal.returns-clause-unused
 returns-clause-unused c =
@@ -91,20 +84,15 @@ returns-clause-value c =
     let a = c.args in
     let b = c.self.inside in
     let i = c.index_of-index.result in
-    let x = c.index_mut.result.now in
+    let x = c.index_mut-entry.result.now in
     let found = c.index_of-index.ensures in
     let there = found_in c.deref.result.now b.entries.items i a.delivery x c.deref.ensures.value found.within
-    (λ d. found.found d) (λ d. found.number d) c.index_mut.ensures.value in
-    let second : c.index-2.result.now ≡ x = read_same b.entries.items i c.index-2.result.now x there.0 c.index-2.ensures
-    c.index_mut.ensures.value in
+    (λ d. found.found d) (λ d. found.number d) c.index_mut-entry.ensures.value in
     λ j. record {
       entries = ((λ k. set b.entries.items i
-          (record x {
-            latest = (c.after-after.ensures ∙ ap (λ (y : Entry). progress_after a.status a.at y.latest)
-                second) k;
-          }))
+          (record x { latest = c.after-entry.ensures k }))
           ∙ set_is a.delivery i (with_attempt a.status a.at) b.entries.items x c.self.invariant.keyed.ascending there.0
-          c.index_mut.ensures.value there.1
+          c.index_mut-entry.ensures.value there.1
           ∙ ap (λ v. map (at_delivery a.delivery (with_attempt a.status a.at)) v.entries) c.self.view_is) j;
       unsettled = (c.push_back_reserved.ensures.items
           ∙ ap (λ v. v.unsettled ++ record { seq = a.seq; delivery = a.delivery } ∷ []) c.self.view_is) j;
@@ -117,23 +105,18 @@ returns-clause-stands c =
     let a = c.args in
     let b = c.self.inside in
     let i = c.index_of-index.result in
-    let x = c.index_mut.result.now in
+    let x = c.index_mut-entry.result.now in
     let found = c.index_of-index.ensures in
     let there = found_in c.deref.result.now b.entries.items i a.delivery x c.deref.ensures.value found.within
-    (λ d. found.found d) (λ d. found.number d) c.index_mut.ensures.value in
-    let second : c.index-2.result.now ≡ x = read_same b.entries.items i c.index-2.result.now x there.0 c.index-2.ensures
-    c.index_mut.ensures.value in
+    (λ d. found.found d) (λ d. found.number d) c.index_mut-entry.ensures.value in
     λ attempt records settled h number.
     subst
     (λ v. StandsFor v (records ++ Outcome a.delivery attempt a.status a.at ∷ []) settled)
     (sym (λ j. record {
       entries = ((λ k. set b.entries.items i
-          (record x {
-            latest = (c.after-after.ensures ∙ ap (λ (y : Entry). progress_after a.status a.at y.latest)
-                second) k;
-          }))
+          (record x { latest = c.after-entry.ensures k }))
           ∙ set_is a.delivery i (with_attempt a.status a.at) b.entries.items x c.self.invariant.keyed.ascending there.0
-          c.index_mut.ensures.value there.1
+          c.index_mut-entry.ensures.value there.1
           ∙ ap (λ v. map (at_delivery a.delivery (with_attempt a.status a.at)) v.entries) c.self.view_is) j;
       unsettled = (c.push_back_reserved.ensures.items
           ∙ ap (λ v. v.unsettled ++ record { seq = a.seq; delivery = a.delivery } ∷ []) c.self.view_is) j;

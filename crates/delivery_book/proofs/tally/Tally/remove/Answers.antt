@@ -4,7 +4,7 @@ use Rattle.std.specs.Cmp.Lexicographic.{bytes_decides}
 use Rattle.relay_types.specs.declared.state.State.{State}
 use Rattle.relay_types.specs.declared.state.State.TheVariants.{Pending, Delivered, Exhausted}
 use Rattle.delivery_book.specs.declared.row.Counts.{Counts}
-use Rattle.delivery_book.specs.Fields.{in_state, has_room, no_counts}
+use Rattle.delivery_book.specs.Fields.{counts_for, in_state, has_room, no_counts}
 use Rattle.delivery_book.proofs.tally.Tally.remove.Goals as goal
 
 -- what counts something is there
@@ -17,9 +17,9 @@ there Exhausted None h = absurd (omega (arith, h))
 pub with_one_less-counts-requires : goal.with_one_less-counts-requires
 with_one_less-counts-requires c = omega (
   arith,
-  c.requires.known (Some c.args.name) ((bytes_decides c.args.name c.args.name).1 refl),
-  ap
-      (in_state c.args.state) c.of.ensures,
+  c.requires.known (Some c.args.name.now) ((bytes_decides c.args.name.now c.args.name.now).1 refl),
+  ap (in_state c.args.state) c.of.ensures,
+  ap (λ n. in_state c.args.state (counts_for c.args.self.now (Some n))) c.get-name.ensures,
 )
 
 pub with_one_less-self-requires : goal.with_one_less-self-requires
@@ -27,6 +27,6 @@ with_one_less-self-requires c = omega (arith, c.requires.known None refl)
 
 pub returns-clause-opened : goal.returns-clause-opened
 returns-clause-opened c =
-    let was : has_room c.args.self.now c.args.name ≡ true = there c.args.state _
-    (c.requires.known (Some c.args.name) ((bytes_decides c.args.name c.args.name).1 refl)) in
+    let was : has_room c.args.self.now c.args.name.now ≡ true = there c.args.state _
+    (c.requires.known (Some c.args.name.now) ((bytes_decides c.args.name.now c.args.name.now).1 refl)) in
     search rules
