@@ -77,7 +77,7 @@ impl Lane {
         self.turns.iter().any(|held| held.seq == seq)
     }
 
-    // Makes this many free places at least. An error is want of memory.
+    // Makes this many free places at least. An error means that an allocation failed.
     pub(crate) fn reserve(&mut self, more: usize) -> Result<(), AllocError>
         requires { IsSound self.old }
         ensures sound { IsSound self.new }

@@ -50,7 +50,7 @@ impl ClaimQueue {
 
     /// Makes places, so that this many more deliveries of the endpoint can be inserted; where as
     /// many are free already, none. An endpoint that is named for the first time has no room until
-    /// it is set. An error is want of memory.
+    /// it is set. An error means that an allocation failed.
     pub fn reserve(&mut self, endpoint: Name, more: usize) -> Result<(), AllocError>
         ensures pairs { OnOk result (HasSamePairs self.old self.new) }
         ensures mark { OnOk result (SetsMark self.old self.new (reserved_mark self.old endpoint more)) }

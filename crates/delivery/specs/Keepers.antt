@@ -63,7 +63,7 @@ cause_of why.OutOfTurn = cause.OutOfTurn
 cause_of why.Illegal = cause.Illegal
 cause_of why.OutOfMemory = cause.OutOfMemory
 
--- How a committer ends behind a commit, if it ends. After want of memory it may go on.
+-- How a committer ends after a commit, if it ends. If an allocation failed, it may go on.
 abbrev pub EndsBy : Result BatchValue CommitEnd → Option CommitterEnd → Type 0
 EndsBy (Ok receipt) end = end ≡ None
 EndsBy (Err (ends.Unchanged batch why.OutOfMemory)) end = (end ≡ None) ⊎ (end ≡ Some (Halted cause.OutOfMemory))

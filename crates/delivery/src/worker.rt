@@ -76,7 +76,7 @@ pub fn worker_round<L: Ledger, I: LogId, P: Poster, C: Clock, R: Wait>(
     }
 }
 
-/// The request of the job's attempt. It shares the event's bytes with the job, and fails only for want of memory.
+/// The request of the job's attempt. It shares the event's bytes with the job, and fails only if an allocation fails.
 pub fn request_of<L: Ledger>(alloc: Global, job: &Job<L>) -> Result<Outgoing, AllocError>
     ensures { IfOk result (λ outgoing. outgoing ≡ request_of job.now) }
 {

@@ -600,7 +600,7 @@ failing r = Err r
 abbrev making : {A : Type 0} → A → Result A Refusal
 making a = Ok a
 
--- what is said of the attempt that was started, or of the want of memory
+-- what is said of the attempt that was started, or of the failed allocation
 pub was_made : {A E : Type 0} (P : A → Type 0) (a : A) (made : Result A E) → making a ≡ out_of_memory_at 3 made
     → IfOk made P → P a
 was_made P a (Ok b) e h = let same : b ≡ a = cc in subst P same h

@@ -238,7 +238,7 @@ page_is w name view counts e f =
     λ i. option_map (λ v. record { view = v; counts = f i }) (e i) in
     page ∙ ap (λ records. endpoint_page records name) (settled_front w)
 
--- The answer to a call is its move: one law for its refusals, one for want of memory, one for what it makes
+-- The answer to a call is its move: one law for its refusals, one for out of memory, one for what it makes
 
 fault_refuses : {A : Type 0} (faults : Faults) (w : World) (answer : Answer A) (r : Refusal)
     → first_fault faults ≡ Err r → unless faults w answer ≡ refused w r.number r.fault

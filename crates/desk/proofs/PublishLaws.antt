@@ -418,7 +418,7 @@ publish_moves d new now topic id body at u v (Err e) checks some faults room lat
     (leaves d new d (λ w. or_out_of_memory 8 (waits_then w now topic id body)) (Err (refusal 8 fault.OutOfMemory))
     (lacks d (λ w. or_out_of_memory 8 (waits_then w now topic id body)) 8 (λ w h. refl)) err)
 
--- what a refusal for want of memory says
+-- what a refusal as out of memory says
 pub lacked_memory : {A E : Type 0} (number : ℕ) (made : Result A E) (r : Refusal) → out_of_memory_at number made ≡ Err r
     → r ≡ refusal number fault.OutOfMemory
 lacked_memory number (Ok a) r same = absurd (let wrong = same in cc)

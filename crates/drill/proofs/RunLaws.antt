@@ -11,7 +11,7 @@ use Rattle.retry_table.specs.declared.post.PostResult.{PostResult}
 use Rattle.drill.specs.Moves.{Session, IsOneOf, lacks, commits, settles, unseals, halts, spends, permit_of, answer_to}
 use Rattle.drill.specs.Runs.{Move, replies_of, is_served, AreServedRunsComputed}
 
--- each of these replies tells of want of memory or of a fault of the store
+-- each of these replies reports out of memory or a fault of the store
 abbrev AreWants : List (Reply × Session) → Type 0
 AreWants [] = Unit {0}
 AreWants (one ∷ others) = (is_served one.0 ≡ false) × AreWants others

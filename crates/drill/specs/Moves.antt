@@ -140,7 +140,7 @@ moves s reply next = record { reply = reply; next = record s { world = next }; u
 abbrev pub stays : Session → Reply → Answer
 stays s reply = moves s reply s.world
 
--- what the desk refuses for want of memory, by this number, if it takes any
+-- what the desk refuses as out of memory, by this number, if it takes any
 abbrev pub lacks : Session → Option ℕ → List (Reply × Session)
 lacks s None = []
 lacks s (Some number) = (says.Refused number fault.OutOfMemory, s) ∷ []

@@ -25,7 +25,7 @@ abbrev pub replies_of : Session → List Call → List Reply
 replies_of s [] = []
 replies_of s (event ∷ events) = (answer_to s event).reply ∷ replies_of (answer_to s event).next events
 
--- whether the reply tells neither of want of memory nor of a fault of the store
+-- whether the reply reports neither out of memory nor a fault of the store
 abbrev pub is_no_want : Fault → Bool
 is_no_want fault.OutOfMemory = false
 is_no_want fault.Store = false
@@ -35,7 +35,7 @@ abbrev pub is_served : Reply → Bool
 is_served (says.Refused number fault) = is_no_want fault
 is_served reply = true
 
--- A law: where no reply of a run tells of want of memory or of a fault of the store, the replies are those that the
+-- A law: where no reply of a run reports out of memory or a fault of the store, the replies are those that the
 -- moves compute.
 abbrev pub AreServedRunsComputed : Type 0
 AreServedRunsComputed =

@@ -40,7 +40,7 @@ impl<L: Ledger, S: Alter> Answerer for Player<L, S> {
 
 /// Runs the script that the reader gives over a store without tables, and writes a reply for each
 /// line. A stop closes the desk with all that is out and opens the store again, under the next
-/// mark; where that is refused, the script ends as `Lost` or for want of memory. A store that has
+/// mark; where that is refused, the script ends as `Lost` or out of memory. A store that has
 /// one of the relay's tables, or whose connection is in a transaction, is `Lost`, unless memory was
 /// refused first; nothing is written. The connection comes back, outside a transaction if it came
 /// so; where the script ended between two lines, with the rows that its commits wrote.

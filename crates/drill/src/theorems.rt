@@ -7,7 +7,7 @@ ghost use Rattle.drill.specs.Within.{CallsChangePlacesWithCommits, RunsKeepMarks
 use sqlite::Alter;
 use std::sync::ledger::Ledger;
 
-/// A law of scripts: where no reply of a run tells of want of memory or of a fault of the store,
+/// A law of scripts: where no reply of a run reports out of memory or a fault of the store,
 /// the replies are those that the moves compute.
 pub fn served_runs_are_computed()
     ensures { AreServedRunsComputed }

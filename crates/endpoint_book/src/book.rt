@@ -81,7 +81,7 @@ impl EndpointBook {
     }
 
     /// Takes in the endpoint of the Put with this sequence number. `next_seq` and `contains` test the conditions. An
-    /// error is want of memory.
+    /// error means that an allocation failed.
     pub fn stage_put(
         &mut self,
         seq: u64,
@@ -124,9 +124,9 @@ impl EndpointBook {
         Ok(())
     }
 
-    /// Puts an endpoint as its records left it: those behind its Put too are settled from now on. So a book is made of
+    /// Puts an endpoint as its records left it: those after its Put too are settled from now on. So a book is made of
     /// what a store holds, and nothing may be staged before. `next_seq` and `contains` test the other conditions. An
-    /// error is want of memory.
+    /// error means that an allocation failed.
     pub fn restore(
         &mut self,
         seq: u64,
@@ -165,7 +165,7 @@ impl EndpointBook {
     }
 
     /// Replaces the secrets of an endpoint, by the record with this sequence number. `next_seq` and `contains` test
-    /// the conditions. An error is want of memory.
+    /// the conditions. An error means that an allocation failed.
     pub fn stage_secrets(
         &mut self,
         seq: u64,

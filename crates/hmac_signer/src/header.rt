@@ -12,7 +12,7 @@ use std::alloc::{AllocError, Global};
 
 /// The value of the header `webhook-signature` of a post (Standard Webhooks 1.0.0): one signature
 /// of `id.timestamp.body` for each secret, the newest first, with one space between. It fails only
-/// for want of memory.
+/// if an allocation fails.
 pub fn signature_header(
     alloc: Global,
     secrets: &Secrets,

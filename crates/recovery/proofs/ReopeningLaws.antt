@@ -159,7 +159,7 @@ unloaded a b load.Closed told same not_closed h = absurd (not_closed refl)
 unloaded a b (load.Store error) told same not_closed h = subst (IsReadingRefusal a b) (sym same) h
 unloaded a b load.OutOfMemory told same not_closed h = subst (IsReadingRefusal a b) (sym same) tt
 
--- a load that is told as want of memory saw the store open
+-- a load that is reported as out of memory saw the store open
 pub seen_open : (P : Type 0) (fault : LoadFault) (told : OpenFault) → told ≡ unloaded_fault fault → told ≡ OutOfMemory
     → (IsSeen (Err fault) → P) → P
 seen_open P load.Closed told same memory seen = absurd (let no : Store (SqliteFailure code.Closed) ≡ OutOfMemory =

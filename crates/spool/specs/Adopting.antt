@@ -126,8 +126,8 @@ unloaded_fault load.OutOfMemory = OutOfMemory
 abbrev pub IsToldAs : Result ℕ TableFault → OpenFault → Type 0
 IsToldAs checked told = (fault : TableFault) × (checked ≡ Err fault) × (told ≡ fault_of fault)
 
--- What is told of a check with this answer. A fault of the store, and want of memory, is the check's own, or that of
--- the look at the store behind it. If it is the check's, the store told no other since.
+-- What is told of a check with this answer. A fault of the store, and a failed allocation, is the check's own, or that
+-- of the look at the store after it. If it is the check's, the store told no other since.
 abbrev pub TellsCheck : State → State → Result ℕ TableFault → Result ℕ OpenFault → Type 0
 TellsCheck old new checked (Ok records) = (checked ≡ Ok records) × IsUnchanged old new
 TellsCheck old new checked (Err NotOurs) = IsToldAs checked NotOurs × IsUnchanged old new

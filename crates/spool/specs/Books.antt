@@ -104,7 +104,7 @@ abbrev pub AsksForLookBehind : Result Books RowFault → Type 0
 AsksForLookBehind (Ok books) = Unit {0}
 AsksForLookBehind (Err fault) = cause (error_of fault) ≡ Memory
 
--- what is told of reads whose fault has this error, if it isn't want of memory
+-- what is told of reads whose fault has this error, if it isn't out of memory
 abbrev pub IsOwnFault : Result Books RowFault → Error → Type 0
 IsOwnFault read told = (fault : RowFault) × (read ≡ Err fault) × (told ≡ error_of fault) × (¬ (cause told ≡ Memory))
 

@@ -55,7 +55,7 @@ fn endpoint_value(alloc: Global, page: &EndpointPage<'_>) -> Result<Value, Alloc
 
 /// The page of an event: its moments are in seconds since the epoch. `due` is `null` unless the
 /// delivery is pending; `last_status` is `null` before the first attempt ended, and 0 where the
-/// last one had no answer. It fails only for want of memory.
+/// last one had no answer. It fails only if an allocation fails.
 pub fn event_text(alloc: Global, page: &Row) -> Result<String, AllocError>
     ensures { IfOk result (λ text. string_bytes text ≡ event_text page.now) }
 {

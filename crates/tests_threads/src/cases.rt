@@ -37,22 +37,22 @@ pub(crate) enum Committer {
     After(u64),
     /// Its first commit is held until an event is taken meanwhile, and a while longer.
     Held,
-    /// The end is asked for before it begins, and so many commits are refused for want of memory.
+    /// The end is asked for before it begins, and so many commits are refused as out of memory.
     Lacking(u32),
     /// It runs from the first on, and so many commits are refused for lack of memory before each that isn't.
     LackingEach(u32),
     /// What its vault has open doesn't stand at its place any more.
     TakenAway,
-    /// It begins a while later, and its first commit is refused for want of memory.
+    /// It begins a while later, and its first commit is refused as out of memory.
     RefusedOnce,
-    /// It begins a while later, and each of its commits is refused for want of memory.
+    /// It begins a while later, and each of its commits is refused as out of memory.
     Refused,
-    /// It begins once the end was asked for, and each of its commits is refused for want of memory.
+    /// It begins once the end was asked for, and each of its commits is refused as out of memory.
     RefusedAtEnd,
 }
 
 impl Committer {
-    // How many of its commits are refused for want of memory.
+    // How many of its commits are refused as out of memory.
     fn refusals(&self) -> u32 {
         match self {
             Committer::Lacking(refusals) | Committer::LackingEach(refusals) => *refusals,

@@ -13,7 +13,7 @@ use std::sync::{Arc, Wait};
 use std::time::Clock as SystemClock;
 use webhook_request::{Outgoing, Poster};
 
-/// Stands before another keeper: refuses so many commits for want of memory, then commits and
+/// Stands before another keeper: refuses so many commits as out of memory, then commits and
 /// counts. After a commit it may refuse as many again. It may hold its first commit until an event
 /// is taken meanwhile, and a while longer.
 #[derive(Drop)]

@@ -39,8 +39,8 @@ impl Model for Outgoing {
 }
 
 impl Outgoing {
-    /// The request of an attempt at this moment, signed by each secret. It shares the event's bytes, and fails only for
-    /// want of memory.
+    /// The request of an attempt at this moment, signed by each secret. It shares the event's bytes, and fails only if
+    /// an allocation fails.
     pub fn build(
         alloc: Global,
         target: &Target,
