@@ -35,7 +35,7 @@ not_before a b h = grind (arith, both_ways, from_before)
 pub from_not_before : (a b : Turn) → IsNotBefore a b → comes_before a b ≡ false
 from_not_before a b h = grind (arith, before)
 
--- the one that comes before does not come behind
+-- the one that comes before does not come after
 pub one_way : (a b : Turn) → comes_before a b ≡ true → comes_before b a ≡ false
 one_way a b h =
     let first = before a b h

@@ -29,7 +29,7 @@ is_turn_numbered seq turn = nat_eq turn.seq seq
 abbrev pub comes_before : Turn → Turn → Bool
 comes_before a b = nat_lt a.due b.due || (nat_eq a.due b.due && nat_lt a.seq b.seq)
 
--- each comes before those behind it
+-- each comes before those after it
 abbrev pub IsInOrder : List Turn → Type 0
 IsInOrder turns = AllPairs (λ a b. IsTrue (comes_before a b)) turns
 

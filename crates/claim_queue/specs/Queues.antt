@@ -115,7 +115,7 @@ is_ready_by marks now pair = nat_le pair.due now && has_room_in marks pair.endpo
 abbrev pub is_ready : QueueValue → (now : Seconds) → Pair → Bool
 is_ready q now pair = is_held q pair && is_ready_by q.marks now pair
 
--- not behind the other by due moment, nor by number where both are due at one moment
+-- not after the other by due moment, nor by number where both are due at one moment
 pub record IsNoLater (pair other : Pair) : Type 0 where
   pub due : pair.due ≤ other.due
   pub tie : pair.due ≡ other.due → pair.seq ≤ other.seq

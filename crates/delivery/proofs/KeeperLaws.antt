@@ -35,7 +35,7 @@ records_in-last (first ∷ batches) steps =
     ap (λ rest. records_of first ++ rest) (records_in-last batches steps)
     ∙ sym (append_assoc (records_of first) (records_in batches) (records_of steps))
 
--- a commit behind which the committer goes on adds a whole batch, or nothing
+-- a commit after which the committer goes on adds a whole batch, or nothing
 pub goes_on : {K : Type 0} (holds : K → List Record → Type 0) (in_doubt : K → List Record → List Record → Type 0)
     (old new : K) (batch : BatchValue) (result : Result BatchValue CommitEnd)
     → EndsBy result None → Leaves holds in_doubt old new batch result → (records : List Record) (batches : List History)

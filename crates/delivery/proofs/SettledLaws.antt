@@ -32,7 +32,7 @@ use Rattle.desk.specs.Claims.{outcome_by, sample_by}
 use Rattle.desk.specs.Desks.{DeskValue, StandsFor, IsMove, Turns, Spends, IsReceiptOf}
 use Rattle.delivery.specs.Logs.{ChangeValue, HasChange, HasRecords, HasSettled, IsCommitted, change_of, entry_of}
 
--- what is settled stays, where records come behind a history
+-- what is settled stays, where records come after a history
 settled_on : (settled : ℕ) (history more : History) → settled ≤ length history
     → records_of (take settled (history ++ more)) ≡ records_of (take settled history)
 settled_on settled history more le = ap records_of (take-append-le settled history more le)
@@ -42,7 +42,7 @@ flatten_both [] ys = refl
 flatten_both (step ∷ xs) ys =
     ap (λ rest. step ++ rest) (flatten_both xs ys) ∙ sym (append_assoc step (records_of xs) (records_of ys))
 
--- a record behind others, at its number
+-- a record after others, at its number
 pub last_behind : (xs : List Record) (x : Record) → last_of (xs ++ x ∷ []) ≡ Some x
 last_behind [] x = refl
 last_behind (y ∷ []) x = refl

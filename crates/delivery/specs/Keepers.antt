@@ -24,7 +24,7 @@ module _ {K : Type 0} (holds : K → List Record → Type 0) (in_doubt : K → L
   Leaves old new batch (Err (ends.Doubtful doubt reason)) =
       (records : List Record) → holds old records → in_doubt new records (records_of batch.steps)
 
-  -- what stands at the end: the history, and where the store was at fault perhaps the last batch behind it
+  -- what stands at the end: the history, and where the store was at fault perhaps the last batch after it
   abbrev pub Stands : K → List Record → CommitterEnd → Type 0
   Stands new records (Halted (cause.Store error)) = (last : History) × in_doubt new records (records_of last)
   Stands new records _ = holds new records
@@ -35,7 +35,7 @@ module _ {K : Type 0} (next : K → ℕ) where
   Counts old new batch (Ok receipt) = (batch.from ≡ next old) × (next new ≡ next old + length (records_of batch.steps))
   Counts old new batch (Err end) = next new ≡ next old
 
--- the records of batches, one batch behind another
+-- the records of batches, one batch after another
 abbrev pub records_in : (batches : List History) → List Record
 records_in [] = []
 records_in (steps ∷ batches) = records_of steps ++ records_in batches

@@ -79,7 +79,7 @@ get_or-any [] i d e h = absurd (omega (arith, h))
 get_or-any (x ∷ xs) zero d e h = refl
 get_or-any (x ∷ xs) (suc i) d e h = get_or-any xs i d e (omega (arith, h))
 
--- an entry that is there stands behind just those below its number
+-- an entry that is there stands after just those below its number
 pub found_at : (entries : List Entry) (seq n : ℕ) → IsAscending entries → is_some (entry_at entries seq) ≡ true
     → n ≤ length entries → ((k : ℕ) (e : Entry) → k < n → (get_or entries k e).seq < seq)
     → ((k : ℕ) (e : Entry) → n ≤ k → k < length entries → seq ≤ (get_or entries k e).seq) → (n < length entries)

@@ -528,7 +528,7 @@ stands_settled book records settled seq h up l = record {
 
 -- A book that was made of a whole history
 
--- no outcome is of a delivery behind the records
+-- no outcome is of a delivery after the records
 none_past : (records some : List Record) (d : ℕ) → AllKnown records some → length records ≤ d → attempts_of some d ≡ []
 none_past records [] d known past = refl
 none_past records (Put name target max secrets ∷ rest) d known past = none_past records rest d known.1 past

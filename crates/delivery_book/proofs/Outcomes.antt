@@ -424,7 +424,7 @@ book-settle index tally settled_tally less more entries o rest room next settled
     at_most true = omega arith
     at_most false = omega arith
 
--- the first of the outcomes that wait, with those behind it
+-- the first of the outcomes that wait, with those after it
 pub front_is : (outcomes rest : List Unsettled) (o : Unsettled) (popped : Option Unsettled)
     → outcomes ≡ option_to_list popped ++ rest → popped ≡ Some (get_or outcomes 0 o) → o ≡ get_or outcomes 0 o
     → outcomes ≡ o ∷ rest

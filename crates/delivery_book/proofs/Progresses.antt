@@ -40,7 +40,7 @@ progress_of-append at attempts a i = record {
         list_any-append (λ (t : Attempt). is_delivered_status t.status) attempts (a ∷ [])
         ∙ ap (λ b. is_delivered_among attempts || b) (or-false (is_delivered_status a.status))
 
--- the attempts among the first records, and among those behind them
+-- the attempts among the first records, and among those after them
 pub attempts_of-append : (some more : List Record) (d : ℕ) → attempts_of (some ++ more) d ≡ attempts_of some d
     ++ attempts_of more d
 attempts_of-append some more d = filter_map-append (attempt_by d) some more
@@ -65,7 +65,7 @@ none_earlier records s d none =
           (attempts_of (drop s records) d),
     ))
 
--- those of all records are those of the first ones where none is behind them
+-- those of all records are those of the first ones where none is after them
 pub all_earlier : (records : List Record) (s d : ℕ) → attempts_of (drop s records) d ≡ []
     → attempts_of records d ≡ attempts_of (take s records) d
 all_earlier records s d none = attempts_of-split records s d ∙ ap (λ more. attempts_of (take s records) d ++ more) none

@@ -40,7 +40,7 @@ among-snoc before (r ∷ later) entry d =
     at true more = refl
     at false more = more
 
--- the first that took a delivery takes it still, and the record behind takes it if it was there
+-- the first that took a delivery takes it still, and the record after takes it if it was there
 pub purged_by-snoc : (records : List Record) (entry : Record) (d : ℕ) → purged_by (records ++ entry ∷ []) d ≡ option_or
     (purged_by records d) (cond (takes records d entry) (Some (length records)) None)
 purged_by-snoc records entry d = among-snoc [] records entry d
@@ -108,7 +108,7 @@ among_left before (r ∷ later) d (suc k) s e = at (takes before d r)
     at true more = lt-leb s (length before) (omega (arith, e))
     at false more = more
 
--- none of the first records took it exactly where the first that did comes behind them
+-- none of the first records took it exactly where the first that did comes after them
 pub left-take : (records : List Record) (s d : ℕ) → option_map_or (leb s) (purged_by records d) true ≡ not
     (is_purged (take s records) d)
 left-take records s d = among_left [] records d s s (omega arith)
@@ -121,7 +121,7 @@ taken_first records s d h = by (purged_by records d) (left-take records s d ∙ 
     by None e = absurd (let no = e in cc)
     by (Some n) e = refl
 
--- what was taken behind a number was taken behind each below it
+-- what was taken after a number was taken after each below it
 pub left_earlier : (s m : ℕ) (o : Option ℕ) → s ≤ m → option_map_or (leb m) o true ≡ true
     → option_map_or (leb s) o true ≡ true
 left_earlier s m None h left = refl

@@ -449,7 +449,7 @@ caught_up_at p first rest (e ∷ es) d up none = by (caught_up_at p first rest e
     by later true false apart = subst (λ b. AreTries [] (cond b (Some (g e)) (entry_at (filter p (map g es)) d)))
         (sym apart) later
 
--- the outcomes among the first record, and those behind it
+-- the outcomes among the first record, and those after it
 split_outcomes : (s : ℕ) (records : List Record) → outcomes_from s records ≡ outcomes_from s (take 1 records)
     ++ outcomes_from (s + 1) (drop 1 records)
 split_outcomes s [] = refl

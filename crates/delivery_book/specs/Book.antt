@@ -68,12 +68,12 @@ pub record StandsFor (book : BookValue) (records : List Record) (settled : ℕ) 
 abbrev pub OverHistories : BookValue → (List Record → (settled : ℕ) → Type 0) → Type 0
 OverHistories book P = (records : List Record) (settled : ℕ) → StandsFor book records settled → P records settled
 
--- with the record behind, which has this number, the later book stands for them
+-- with one more record, which has this number, the later book stands for them
 abbrev pub Takes : (old : BookValue) → Seq → Record → (new : BookValue) → Type 0
 Takes old seq entry new =
     OverHistories old (λ records settled. seq ≡ length records → StandsFor new (records ++ entry ∷ []) settled)
 
--- with these records behind, of which the first has this number, the later book stands for them
+-- with these records added, of which the first has this number, the later book stands for them
 abbrev pub TakesAll : (old : BookValue) → Seq → (more : List Record) → (new : BookValue) → Type 0
 TakesAll old seq more new =
     OverHistories old (λ records settled. seq ≡ length records → StandsFor new (records ++ more) settled)
@@ -89,7 +89,7 @@ is_other (Outcome delivery attempt status at) = false
 is_other (Purge moment) = false
 is_other entry = true
 
--- whether the delivery is pending, and no outcome of it waits behind the settled records
+-- whether the delivery is pending, and no outcome of it waits after the settled records
 abbrev pub is_free : List Record → (settled : ℕ) → Seq → Bool
 is_free records settled d = is_pending records d && length (attempts_of (drop settled records) d) == 0
 

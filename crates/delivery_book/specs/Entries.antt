@@ -286,7 +286,7 @@ with_purge book seq moment = record book {
   next_seq = seq + 1;
 }
 
--- the outcomes in front that are below this number, and those behind them
+-- the outcomes in front that are below this number, and those after them
 abbrev pub front_below : Seq → List Unsettled → List Unsettled
 front_below seq [] = []
 front_below seq (o ∷ rest) = if nat_lt o.seq seq then o ∷ front_below seq rest else []

@@ -127,7 +127,7 @@ IsAscending entries =
     (i j : ℕ) (d : Entry)
     → i < j → j < length entries → (slice_index_or entries i d).seq < (slice_index_or entries j d).seq
 
--- the first n entries stand below this number, and those behind them don't
+-- the first n entries stand below this number, and those after them don't
 abbrev pub FirstBelow : (n : ℕ) → Seq → List Entry → Type 0
 FirstBelow n seq entries = (k : ℕ) (d : Entry) → k < n → (slice_index_or entries k d).seq < seq
 

@@ -1,4 +1,4 @@
--- What a book has of the records behind the settled ones, whatever stands before these.
+-- What a book has of the records after the settled ones, whatever stands before these.
 use Rattle.std.specs.Prelude.{◌≡◌, ◌+◌, Bool, nat_le, List, [], ◌∷◌, Option, Some, None, filter}
 use Rattle.relay_types.specs.declared.record.Record.{Record}
 use Rattle.relay_types.specs.Values.{Seq}
@@ -11,7 +11,7 @@ use Rattle.delivery_book.specs.Entries.{BookValue, entry_at, events_from, progre
 abbrev pub is_from : Seq → Entry → Bool
 is_from seq entry = nat_le seq entry.seq
 
--- A delivery with these attempts behind the settled records. By all records it has come as far as by the settled ones,
+-- A delivery with these attempts after the settled records. By all records it has come as far as by the settled ones,
 -- or one attempt further.
 abbrev pub AreTries : List Attempt → Option Entry → Type 0
 AreTries tries None = tries ≡ []

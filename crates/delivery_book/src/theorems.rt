@@ -1,8 +1,8 @@
 //! Laws that contracts rest on.
 ghost use Rattle.delivery_book.specs.Laws.{OthersLeave, RestoredStand};
 
-/// Records of endpoints need no call of the book: it stands for the history with a Put, Secrets, Enabled or Subscribed
-/// behind as it stood before.
+/// Records of endpoints need no call of the book. It represents the history with a Put, Secrets, Enabled or Subscribed
+/// added as it did before.
 pub fn endpoint_records_leave()
     ensures { OthersLeave }
 {}

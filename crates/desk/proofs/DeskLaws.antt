@@ -258,7 +258,7 @@ refuses {A} d faults answer r checks = λ w h.
     (sym (checks w h)) in
     (w, inl (sym (ap (λ (a : Answer A). a.reply) e), sym (ap (λ (a : Answer A). a.next) e)), h)
 
--- where no fault is there, the answer is that behind the faults
+-- where no fault is there, the answer is that after the faults
 pub passes : {A : Type 0} (d new : DeskValue) (faults : World → Faults) (answer : World → Answer A) (u : Unit {0})
     (reply : Result A Refusal) → Checks d faults (Ok u) → IsMove d answer reply new
     → IsMove d (λ w. unless (faults w) w (answer w)) reply new
@@ -356,7 +356,7 @@ pub one_more : (waiting : WaitingValue) (entry : Record) → record_count (with_
     waiting + 1
 one_more waiting entry = omega (arith, length-records_of waiting.waiting ((entry ∷ []) ∷ []))
 
--- the records that wait, and one more behind them
+-- the records that wait, and one more after them
 pub one_waits : (d : delivery_entries.BookValue) (waiting : WaitingValue) (entry : Record)
     → HasWaiting d (records_of waiting.waiting ++ entry ∷ [])
     → HasWaiting d (records_of (with_step waiting (entry ∷ [])).waiting)

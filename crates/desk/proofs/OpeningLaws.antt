@@ -91,7 +91,7 @@ abbrev pub HoldsAmong : QueueValue → BookValue → List Entry → Type 0
 HoldsAmong queue book done = (pair : Pair) → is_held queue pair ≡ is_some (entry_at done pair.seq)
     && waits_as book [] pair
 
--- what the entry at a place is, and how many were looked at behind it
+-- what the entry at a place is, and how many were looked at after it
 record IsAt (book : BookValue) (i d : ℕ) : Type 0 where
   numbered : (n : ℕ) → is_some (entry_at (take (i + 1) book.entries) n) ≡ is_some (entry_at (take i book.entries) n)
       || nat_eq d n

@@ -59,7 +59,7 @@ rest_all s upto [] h = refl
 rest_all s upto (o ∷ rest) h = ap (λ b. if b then rest_from s rest else o ∷ rest)
     (le-ltb o.seq s (leb-true s o.seq (and_first (nat_le s o.seq) _ h)))
 
--- those behind the one of this number, which is the first if it is there
+-- those after the one of this number, which is the first if it is there
 abbrev behind : (s : ℕ) → List Unsettled → List Unsettled
 behind s [] = []
 behind s (o ∷ rest) = if nat_eq o.seq s then rest else o ∷ rest
@@ -483,7 +483,7 @@ pub next_within : (queue : QueueValue) (book : BookValue) → (live : List Row) 
     → book.settled_seq ≤ book.next_seq
 next_within queue book queued = rises_within book.settled_seq book.next_seq book.unsettled queued.1.apart.in_turn
 
--- What waits behind the records that are settled
+-- What waits after the records that are settled
 
 pub one_settled : (book new : BookValue) (seq : ℕ) (records : List Record) → IsInStep book → seq ≡ book.settled_seq
     → new ≡ with_settled book (seq + 1) → HasWaiting book records → HasWaiting new (drop 1 records)

@@ -140,7 +140,7 @@ receipt_count {d} {w} receipt h is =
       h.waiting.sealed_within,
     )
 
--- the number behind the records that are out
+-- the number after the records that are out
 pub sealed_place : {d : DeskValue} {w : World} (count : ℕ) → StandsFor d w → count ≡ out_count w
     → upto_of d.waiting.settled (take count d.waiting.waiting) ≡ length (sealed_records w)
 sealed_place {d} {w} count h same =
@@ -206,7 +206,7 @@ outcomes_left count steps =
 pub records_settled : (steps : WaitingValue) (count : ℕ) → record_count (with_settled steps count) ≡ record_count steps
 records_settled steps count = omega (arith, length-records_of-split count steps.waiting)
 
--- the records that are left behind those of the first steps
+-- the records that are left after those of the first steps
 records_left : (steps : WaitingValue) (count place settled : ℕ)
     → place ≡ upto_of steps.settled (take count steps.waiting) → settled ≡ steps.settled
     → drop (place - settled) (records_of steps.waiting) ≡ records_of (drop count steps.waiting)
@@ -404,7 +404,7 @@ seal_reply (Ok sealed) = Ok sealed
 seal_reply (Err sealing.BatchOut) = Err (refusal 2 fault.BatchOut)
 seal_reply (Err sealing.OutOfMemory) = Err (refusal 3 fault.OutOfMemory)
 
--- what is behind the faults of a seal is its move
+-- what is after the faults of a seal is its move
 seal_passes : (d new : DeskValue) (reply : Result (Option BatchValue) Refusal) (is_idle : Bool) → d.halted ≡ false
     → d.waiting.out ≡ None → no_steps d.waiting.waiting ≡ is_idle
     → IsMove d (λ w. seal_waiting d.waiting.mark w is_idle) reply new → IsMove d (seal d.waiting.mark) reply new

@@ -71,7 +71,7 @@ pub record IsDesk (endpoints : endpoint_entries.BookValue) (deliveries : deliver
   pub deliveries_wait : HasWaiting deliveries (records_of waiting.waiting)
   pub tied : AreTied endpoints deliveries waiting live limiters queue
 
--- What is so of a desk whenever its lock is got, whatever its store had. The records that wait stand behind the settled
+-- What is so of a desk whenever its lock is got, whatever its store had. The records that wait stand after the settled
 -- ones, and both books begin to wait where the list does. Of the deliveries just those wait that the list has, each by
 -- the same record, and of the changes of endpoints too: what each endpoint shows, or will show once more is settled, is
 -- what these records make of it. Each attempt that is under way is one at a settled delivery that is pending and has no
@@ -101,7 +101,7 @@ pub record AreBooks (endpoints : endpoint_entries.BookValue) (deliveries : deliv
 abbrev pub out_count : (out : Out) (settled sealed : ℕ) → Option ℕ
 out_count out settled sealed = if is_nothing_out out then None else Some (sealed - settled)
 
--- the steps behind the settled ones wait, and the sealed ones among them are out
+-- the steps after the settled ones wait, and the sealed ones among them are out
 pub record Waits (waiting : WaitingValue) (history : History) (settled sealed : ℕ) (out : Out)
     (seq : Seq) : Type 0 where
   pub steps : waiting.waiting ≡ drop settled history

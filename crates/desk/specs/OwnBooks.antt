@@ -29,7 +29,7 @@ abbrev pub told : DeskValue → Ticket → Told
 told desk ticket = known_by desk.halted (has_event desk ticket)
     (is_row_of ticket (latest_row desk.deliveries ticket.seq))
 
--- by place alone: the records below the settled count are settled, those behind them wait
+-- by place alone: the records below the settled count are settled, those after them wait
 abbrev pub told_command : DeskValue → CommandTicket → Told
 told_command desk ticket =
     known_by desk.halted (nat_lt ticket.seq desk.waiting.settled) (nat_lt ticket.seq (record_count desk.waiting))

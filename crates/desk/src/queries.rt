@@ -97,7 +97,7 @@ impl<L: Ledger> Desk<L> {
     pub fn limits(&self, name: Name) -> Option<Limits>
         ensures value { result ≡ kept.limits self.now name }
 
-        // whatever its store had: the limit is that of the endpoint's last samples behind some earlier ones
+        // whatever its store had: the limit is that of the endpoint's last samples after some earlier ones
         ensures explained { IfSome (limiter_of self.now.limiters name) (λ l. IsExplained l.estimator) }
         ensures stands { OverWorlds self.now (λ w. result ≡ limits w name) }
     {

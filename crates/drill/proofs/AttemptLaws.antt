@@ -52,7 +52,7 @@ use Rattle.drill.proofs.VaultLaws.{each_left, leaves_goes, leaves_settled, left_
 abbrev outcomes : List Record → ℕ → ℕ
 outcomes records d = length (attempts_of records d)
 
--- Steps in front, and those behind them
+-- Steps in front, and those after them
 
 more_outcomes : (some more : List Record) (d : ℕ) → outcomes (some ++ more) d ≡ outcomes some d + outcomes more d
 more_outcomes some more d = ap length (attempts_of-append some more d) ∙ length-append (attempts_of some d)

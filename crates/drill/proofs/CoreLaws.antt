@@ -63,7 +63,7 @@ use Rattle.drill.specs.Cores.{IsHeld, AreOnce, CoreStandsFor, HoldsAll, HoldsOut
 
 -- Worlds after which what is out, settled and sealed is as before
 
--- at most steps behind the others are new
+-- at most steps after the others are new
 pub record Goes (w next : World) : Type 0 where
   pub out : next.out ≡ w.out
   pub settled : next.settled ≡ w.settled

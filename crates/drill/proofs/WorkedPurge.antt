@@ -81,7 +81,7 @@ written : replies_text replies
 unfolding digits replies
 written = refl
 
--- The outcome and a Purge wait behind two settled steps: no event is known any more, and a stop takes both back.
+-- The outcome and a Purge wait after two settled steps: no event is known any more, and a stop takes both back.
 
 abbrev waiting : World
 waiting = world (two_steps ++ outcome_step ++ (Purge 1001 ∷ []) ∷ []) 2

@@ -45,7 +45,7 @@ RestartsKeepWhatWasShown =
     → IsOpening w → Runs (session_of w) events replies first acknowledged → RunsAgain first.world runs last
     → KeepsFirst last acknowledged (all_records first.world)
 
--- The same law of scripts: what the first lines showed, a stop leaves in front behind further ones, however many stops
+-- The same law of scripts: what the first lines showed, a stop leaves in front after further ones, however many stops
 -- are among them.
 abbrev pub StopsKeepWhatWasShown : Type 0
 StopsKeepWhatWasShown =

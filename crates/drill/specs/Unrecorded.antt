@@ -8,12 +8,12 @@ use Rattle.relay_types.specs.Deliveries.{accept_at, accepted, attempts_of, is_pe
 use Rattle.desk.specs.World.{World, all_records}
 use Rattle.recovery.specs.Left.{records_of_first}
 
--- the records of the steps behind the first so many
+-- the records of the steps after the first so many
 abbrev pub records_behind : World → (steps : ℕ) → List Record
 records_behind w steps = records_of (drop steps w.history)
 
 -- how many attempts at the delivery have no outcome in the first so many steps: those under way, and those whose
--- outcome stands behind them
+-- outcome stands after them
 abbrev pub unrecorded : World → (steps : ℕ) → (delivery : Seq) → ℕ
 unrecorded w steps d = count_by (λ row. row.delivery == d) w.live + length (attempts_of (records_behind w steps) d)
 

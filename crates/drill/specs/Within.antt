@@ -39,7 +39,7 @@ RunsKeepMarksInOrder =
     (w : World) (events : List Event) (replies : List Reply) (last : Session) (acknowledged : ℕ)
     → IsOpening w → Runs (session_of w) events replies last acknowledged → HasMarksInOrder last.world
 
--- A law: the commit of a batch may come before calls of other threads or behind them. Every run of one order is one of
+-- A law: the commit of a batch may come before calls of other threads or after them. Every run of one order is one of
 -- the other: with the same replies, to the same session, and what it acknowledges is the same and no record of the
 -- batch.
 abbrev pub CallsChangePlacesWithCommits : Type 0

@@ -224,7 +224,7 @@ pub(crate) trait Attempt {
     }
 }
 
-/// Makes the call twice, and prints what it told each time, and what stands behind it. Whether it was made.
+/// Makes the call twice, and prints what it told each time, and what stands after it. Whether it was made.
 pub(crate) fn try_twice<A: Attempt>(rt: &HostRuntime, attempts: &mut A) -> io::Result<bool> {
     println!(rt; "stands {}", attempts.state())?;
     for _ in 0..TRIES {

@@ -123,7 +123,7 @@ fn move_all(
     Ok(true)
 }
 
-/// Prints what is next behind each of so many random moves.
+/// Prints what is next after each of so many random moves.
 pub(crate) fn print_moves(rt: &HostRuntime, seed: u64, count: u64) -> io::Result<bool> {
     let mut queue = ClaimQueue::new(rt.alloc());
     let mut held = Vec::new(rt.alloc());

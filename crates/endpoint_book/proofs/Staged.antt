@@ -60,7 +60,7 @@ shows-more book records settled r c es place h at_end later tells same made coun
     old : Shows book place (take place records)
     old = h.shows place later
 
-    -- the place is behind the new record
+    -- the place is after the new record
     below : c.seq < place → Shows (more book es c) place (take place (records ++ r ∷ []))
     below lt =
         let whole = take_all place (records ++ r ∷ []) (omega (arith, lt, at_end, length-append records (r ∷ []))) in

@@ -1,4 +1,4 @@
--- What a book has of the records behind the settled ones, whatever stands before these.
+-- What a book has of the records after the settled ones, whatever stands before these.
 use Rattle.std.specs.Prelude.{◌≡◌, ℕ, ◌+◌, Bool, true, false, not, nat_lt, List, [], ◌∷◌, Option, Some, None, length}
 use Rattle.std.specs.Prelude.{map, take, filter, filter_map, option_map, bytes_eq, IsTrue, IfSome, if◌then◌else◌}
 use Rattle.std.specs.List.{enumerate_from, list_all}
@@ -47,7 +47,7 @@ with_count count shown = record shown { secrets = count }
 abbrev pub with_enabled : Bool → Shown → Shown
 with_enabled flag shown = record shown { enabled = flag }
 
--- what its endpoint, which showed this, shows behind it
+-- what its endpoint, which showed this, shows after it
 abbrev pub shown_behind : Record → Option Shown → Option Shown
 shown_behind (on.Put name target max secrets) shown = Some (record { enabled = true; secrets = length secrets })
 shown_behind (on.Secrets name secrets) shown = option_map (with_count (length secrets)) shown
@@ -59,7 +59,7 @@ abbrev pub is_changed_by : (endpoint_at : Seq → Option Text) (name : Text) →
 is_changed_by endpoint_at name entry = option_map_or (λ changed. bytes_eq changed name) (changed_by endpoint_at entry)
     false
 
--- what an endpoint of this name, which showed this, shows behind these records
+-- what an endpoint of this name, which showed this, shows after these records
 abbrev pub shown_after : (endpoint_at : Seq → Option Text) (name : Text) → List Record → Option Shown → Option Shown
 shown_after endpoint_at name [] shown = shown
 shown_after endpoint_at name (entry ∷ rest) shown = shown_after endpoint_at name rest

@@ -46,7 +46,7 @@ pub enum Kind {
     Flag,
 }
 
-/// A record that changed this endpoint and isn't settled, and what the endpoint shows behind it.
+/// A record that changed this endpoint and isn't settled, and what the endpoint shows after it.
 #[derive(Clone, Copy)]
 pub struct Change {
     pub(crate) seq: u64,

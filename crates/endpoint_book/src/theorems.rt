@@ -1,8 +1,8 @@
 //! Laws that contracts rest on.
 ghost use Rattle.endpoint_book.specs.Laws.{OthersLeave, IdleLeave, RestoredStand};
 
-/// Accepts, Purges, and Outcomes that don't say that the endpoint is gone, need no call of the book: it stands for the
-/// history with one behind as it stood before.
+/// Accepts, Purges, and Outcomes that don't say that the endpoint is gone, need no call of the book. It represents the
+/// history with one of them added as it did before.
 pub fn other_records_leave()
     ensures { OthersLeave }
 {}

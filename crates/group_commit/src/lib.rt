@@ -1,4 +1,4 @@
-//! Group commit: the steps that wait behind the settled ones, the batch that is sealed of the first of them, and what
+//! Group commit: the steps that wait after the settled ones, the batch that is sealed of the first of them, and what
 //! becomes of it.
 #![tactic(auto)]
 

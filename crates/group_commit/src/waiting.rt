@@ -19,7 +19,7 @@ use spool::{Batch, Doubt, MAX_BATCH_RECORDS, Receipt};
 use std::alloc::{AllocError, Global};
 use std::marker::Model;
 
-/// The steps behind the settled ones, in their order. A batch of the first of them may be out: it
+/// The steps after the settled ones, in their order. A batch of the first of them may be out: it
 /// is with the committer, until it comes back as a receipt, as itself or as a doubt.
 #[derive(Drop)]
 pub struct Waiting {
@@ -43,7 +43,7 @@ impl Model for Waiting {
 }
 
 impl Waiting {
-    /// All places, and no step, behind so many settled records of an opening with this mark.
+    /// All places, and no step, after so many settled records of an opening with this mark.
     pub fn new(alloc: Global, records: u64, mark: u64) -> Result<Waiting, AllocError>
         requires { records ≤ MAX_RECORDS }
         ensures { IfOk result

@@ -11,7 +11,7 @@ not_hash_by : (c : ℕ) (b : Bool) → (c == 35) ≡ b → IsTrue (is_path_chara
 not_hash_by c false e h = refl
 not_hash_by c true e h = let wrong : false ≡ true = subst (λ n. IsTrue (is_path_character n)) (eqb-true c 35 e) h in cc
 
--- behind a first character that is no `#`
+-- after a first character that is no `#`
 behind : (c : ℕ) (rest : Text) (b : Bool) → (c == 35) ≡ b → b ≡ false → without_fragment rest ≡ rest
     → without_fragment (c ∷ rest) ≡ c ∷ rest
 behind c rest b e is whole = grind (arith, nat_tests)

@@ -25,7 +25,7 @@ same_topic a b e = cc
 same_id : (a b : List ℕ) → codes "/events/" ++ a ≡ codes "/events/" ++ b → a ≡ b
 same_id a b e = cc
 
--- the line of a method, a name, and what stands behind the name
+-- the line of a method, a name, and what stands after the name
 one_behind : (a b : Line) (method name rest : List ℕ) → IsBehindName a method name rest
     → IsBehindName b method name rest → a ≡ b
 one_behind (Publish t) b method name rest h k = absurd h

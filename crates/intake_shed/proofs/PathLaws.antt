@@ -1,4 +1,4 @@
--- A path has one name of an endpoint, and one rest behind it.
+-- A path has one name of an endpoint, and one rest after it.
 use Rattle.std.proofs.Common.{◌≡◌, ℕ, suc, ◌+◌, ◌==◌, Bool, true, false, not, cond, List, [], ◌∷◌, ◌++◌, take, drop}
 use Rattle.std.proofs.Common.{IsTrue, codes, refl, sym, ap, ◌∙◌, subst, arith}
 use Rattle.std.specs.List.{list_all, position_or_len}

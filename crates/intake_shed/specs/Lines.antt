@@ -30,7 +30,7 @@ method_of Totals = codes "GET"
 method_of (Endpoint name) = codes "GET"
 method_of (Event name id) = codes "GET"
 
--- the path of an endpoint, and what stands behind its name
+-- the path of an endpoint, and what stands after its name
 abbrev pub endpoint_path : (name rest : Text) → Text
 endpoint_path name rest = codes "/v1/endpoints/" ++ (name ++ rest)
 

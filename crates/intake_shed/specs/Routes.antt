@@ -25,7 +25,7 @@ abbrev pub StartsAt : (mark : ℕ) → Text → Type 0
 StartsAt mark [] = Unit {0}
 StartsAt mark (c ∷ rest) = c ≡ mark
 
--- the line of an endpoint of this name has this method, and this rest behind the name
+-- the line of an endpoint of this name has this method, and this rest after the name
 abbrev pub IsBehindName : Line → (method name rest : Text) → Type 0
 IsBehindName (Put its) method name rest = (method ≡ codes "PUT") × (name ≡ its) × (rest ≡ [])
 IsBehindName (SetSecrets its) method name rest = (method ≡ codes "PUT") × (name ≡ its) × (rest ≡ codes "/secrets")

@@ -59,7 +59,7 @@ fn read_topic<'a>(method: &[u8], named: &'a [u8]) -> Option<Route<'a>>
     is_publish.then_some(Route::Publish(topic))
 }
 
-// The line of this method, of the endpoint of this name and what stands behind it.
+// The line of this method, of the endpoint of this name and what stands after it.
 fn read_behind_name<'a>(method: &[u8], name: &'a [u8], rest: &'a [u8]) -> Option<Route<'a>>
     requires name { IsTrue (has_no 47 name.now) }
     requires rest { StartsAt 47 rest.now }

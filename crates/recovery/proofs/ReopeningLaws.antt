@@ -122,7 +122,7 @@ module _ {A E : Type 0} (P : A → Type 0) (C Q : E → Type 0) where
   with_cause (Ok x) cause p = p
   with_cause (Err e) cause q = (cause, q)
 
--- A read behind a migration
+-- A read after a migration
 
 pub migrated_then : (a b c : State) → MayMigrate a b → IsOnlyRead b c → MayMigrate a c
 migrated_then a b c first second = record {
@@ -168,7 +168,7 @@ seen_open P (load.Store error) told same memory seen = absurd (let no : Store er
     ∙ memory in cc)
 seen_open P load.OutOfMemory told same memory seen = seen tt
 
--- behind a read that left the store open
+-- after a read that left the store open
 module _ {P : Trees → Type 0} (a m b : State) (early : Survives a m P) (is_open : IsTrue m.is_open) where
   pub reading_since : (fault : OpenFault) → IsReadingRefusal m b fault → IsReadingRefusal a b fault
   reading_since NotOurs none = none

@@ -20,7 +20,7 @@ use std::convert::AsStr;
 use std::io::{Read, Write};
 use text_lines::StreamFault;
 
-/// What `--version` prints behind the program's name.
+/// What `--version` prints after the program's name.
 pub const VERSION: &str = "0.1.0";
 
 const EXIT_HELP: &str = "Exit status:

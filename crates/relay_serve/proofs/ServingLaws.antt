@@ -1,4 +1,4 @@
--- What a committer's run, and a look at the rows behind it, leave of the histories that a vault held.
+-- What a committer's run, and a look at the rows after it, leave of the histories that a vault held.
 use Rattle.std.proofs.Common.{sym, subst, List, [], ◌++◌}
 use Rattle.std.specs.Prelude.{◌≡◌, Option, Some, None, IfSome, IsTrue}
 use Rattle.std.proofs.lemmas.List.{append-nil}

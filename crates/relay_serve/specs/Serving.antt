@@ -32,11 +32,11 @@ module _ {S : Type 0} (g : Ghosts S) where
   HasRows v records = (IsTrue (state g v.conn).is_open → tables.Stands (state g v.conn) (rows_of records))
       × MayLeave (state g v.conn) (λ r. r ≡ rows_of records)
 
-  -- the same, but that a stop may leave the rows of more records behind them
+  -- the same, but that a stop may leave the rows of more records after them
   abbrev pub LeavesDoubt : VaultValue S → List Record → List Record → Type 0
   LeavesDoubt v records more = RestsInDoubt (state g v.conn) records more
 
-  -- Of each history that the vault held, it has the rows, with those of whole batches behind them, in their order, and
+  -- Of each history that the vault held, it has the rows, with those of whole batches after them, in their order, and
   -- a stop leaves these; where the store was at fault it leaves these, or these and the last batch.
   abbrev pub AddsBatches : (old new : VaultValue S) → CommitterEnd → Type 0
   AddsBatches old new end = (records : List Record) → HoldsOnDisk g old records

@@ -55,7 +55,7 @@ where
     unreachable!()
 }
 
-// Tells of a post that disabled its endpoint, and of one behind which its event is given up.
+// Tells of a post that disabled its endpoint, and of one after which its event is given up.
 fn tell_of<R: Clock + AllocGlobal + Eprint>(rt: &R, round: &Round) {
     let Round::Posted {
         endpoint,

@@ -1,4 +1,4 @@
--- The books of the tables once all their records are settled, and the vault behind a load.
+-- The books of the tables once all their records are settled, and the vault after a load.
 use Rattle.std.proofs.Common.{◌≡◌, ◌<◌, ◌⊎◌, ℕ, Bool, true, false, cond, List, [], ◌∷◌, Result, Ok, Err, IfOk, IfErr}
 use Rattle.std.proofs.Common.{IsTrue, map, length, inl}
 use Rattle.std.proofs.Common.{inr, refl, sym, subst, ap, ◌∙◌, arith}
@@ -188,7 +188,7 @@ read_until a m z early late clean (Err (Failed error)) refused = λ is_open reco
     was_until a m z late error (was_refusal a m error
     (refused (omega (arith, clean, late.clean)) is_open records legal tables tt))
 
--- and a look at the store behind it
+-- and a look at the store after it
 pub load_refused : (a m z : State) → Survives a m (λ _. ⊥) → Survives m z (λ _. ⊥) → HasCleanDisk z
     → (read : Result Books RowFault) (result : Result Books LoadFault)
     → (HasCleanDisk m → IfErr read (WasReadRefusal a m)) → TellsLoad m z read result
@@ -207,7 +207,7 @@ load_refused a m z early late clean read (Err (Store error)) refused (inl (fault
     by Unreadable same none = absurd none
     by (Failed e) same refusal = subst (WasRefusal a z) (sym same) (was_until a m z late e refusal)
 
--- All that was read, one table behind another
+-- All that was read, one table after another
 
 module _ (a b t d e z : State) (restored endpoints : Endpoints) (deliveries attempted : Deliveries) (count : ℕ)
     (quiet_b : IsQuiet a b) (quiet_t : IsQuiet b t) (quiet_d : IsQuiet t d) (quiet_e : IsQuiet d e) (look : Spares e z)

@@ -118,7 +118,7 @@ above_is a b = at (nat_lt a b) refl
         by true f = sym (le-ltb b a (omega (arith, eqb-true a b f)))
         by false f = sym (lt-ltb b a (omega (arith, ltb-false a b e, eqb-false a b f)))
 
--- taken out and added behind all others, they are those that are replaced in their place
+-- taken out and added after all others, they are those that are replaced in their place
 pub replaced_in_place : (put : ℕ) (secrets : List (List ℕ)) (rows : List SecretRow)
     → IsPermutation (filter (λ (s : SecretRow). not (s.endpoint == put)) rows ++ secret_rows put secrets)
     (replace_secrets put secrets rows)

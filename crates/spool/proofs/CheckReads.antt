@@ -1,4 +1,4 @@
--- What a check of the tables leaves, with the look at the store behind it.
+-- What a check of the tables leaves, with the look at the store after it.
 use Rattle.std.proofs.Common.{◌≡◌, ◌⊎◌, inl, inr, ℕ, false, Result, Ok, Err, IsTrue, sym, subst, ◌∙◌, arith}
 use Rattle.std.specs.Prelude.{MatchResult}
 use Rattle.sqlite.specs.State.{State, HasCleanDisk, IsRolledBack, IsUnchanged, Survives}
@@ -26,7 +26,7 @@ back_keeps a b back is_open = (
   },
 )
 
--- ---- the last commit stands behind calls that wrote nothing
+-- ---- the last commit stands after calls that wrote nothing
 
 abbrev IsEnded : State → State → Type 0
 IsEnded a b = IsUnchanged a b ⊎ IsRolledBack a b
@@ -53,7 +53,7 @@ back_then a m b first later = record {
   autocommit = later.autocommit;
 }
 
--- behind a call that was undone
+-- after a call that was undone
 pub back_behind : (a m b : State) → (IsTrue m.is_open → IsBack a m) → (IsTrue b.is_open → IsEnded m b)
     → IsTrue b.is_open → IsBack a b
 back_behind a m b first later is_open =

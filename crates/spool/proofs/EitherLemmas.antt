@@ -1,4 +1,4 @@
--- What a migration says of tables of version 1, by the check of six tables, of the five, and what comes behind them.
+-- What a migration says of tables of version 1, by the check of six tables, of the five, and what comes after them.
 use Rattle.std.proofs.Common.{◌≡◌, inl, inr, ℕ, Bool, true, false, Result, Ok, Err, IfErr, IfOk, IsTrue, OnOk}
 use Rattle.std.proofs.Common.{refl, sym, subst}
 use Rattle.std.specs.Prelude.{IsErr, MatchResult, OnErr}

@@ -64,7 +64,7 @@ module _ (a m b : State) (early : Survives a m (λ _. ⊥)) (late : Survives m b
     told_as : (told : OpenFault) → IsToldAs checked told → IsOfStore a m told
     told_as told (fault, is, same) = subst (IsOfStore a m) (sym same) (of_check fault (refused fault is))
 
-    -- a check of such tables, and a look at the store behind it
+    -- a check of such tables, and a look at the store after it
     check_told : (result : Result ℕ OpenFault) → TellsCheck m b checked result → IfErr result (IsOfStore a b)
     check_told (Ok records) told = tt
     check_told (Err NotOurs) told = told_as NotOurs told.0

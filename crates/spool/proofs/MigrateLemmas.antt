@@ -113,7 +113,7 @@ may_migrate a b free was_open survives clean = record {
 pub may_stay : (a : State) → MayMigrate a a
 may_stay a = record { stays = λ is_open. (is_open, λ rows stands. stands); leaves = λ db may. inl may }
 
--- a transaction that was refused for this error, and a look at the store behind it
+-- a transaction that was refused for this error, and a look at the store after it
 pub unmade_for : (a m b : State) (error : Error) (told : OpenFault) → (HasCleanDisk m → IsCause a m error)
     → Survives a m (Migrated a) → Survives m b (λ _. ⊥) → HasCleanDisk b → TellsFault m b error told
     → IsUnmadeFor a b told
@@ -125,7 +125,7 @@ unmade_for a m b error OutOfMemory caused first later clean told = tt
 unmade_for a m b error (Store other) caused first later clean told =
     unmade a m b error other caused first later clean told
 
--- what the transaction commits, and a look behind it
+-- what the transaction commits, and a look after it
 pub survives_look : (a m b : State) → Survives a m (Migrated a) → Survives m b (λ _. ⊥) → Survives a b (Migrated a)
 survives_look a m b first later = survives_then a m b _ _ (Migrated a) (λ _ db made. made) (λ _ db none. absurd none)
     first later

@@ -49,7 +49,7 @@ module _ {X : Type 0} (number : X → ℕ) where
       at true more = (h.0, more)
       at false more = rising_lower a (number x + 1) b (filter test xs) (omega (arith, h.0)) more
 
-  -- the place behind the last of them
+  -- the place after the last of them
   abbrev pub behind_last : ℕ → List X → ℕ
   behind_last a [] = a
   behind_last a (x ∷ xs) = behind_last (number x + 1) xs
@@ -219,7 +219,7 @@ module _ {X : Type 0} (number : X → ℕ) where
           ∙ λ i. none_from 0 from from read (omega arith) h.before i ++ all_from from MAX_RECORDS from left
           (omega arith) h.behind i
 
-  -- the rows behind a page are left
+  -- the rows after a page are left
   pub left_behind : (from : ℕ) (xs read page more : List X) → IsLeft number from xs read (page ++ more)
       → IsLeft number (behind_last from page) xs (read ++ page) more
   left_behind from xs read page more h =
@@ -267,7 +267,7 @@ module _ {X : Type 0} (number : X → ℕ) where
 
   -- What a page that was read leaves
 
-  -- the rows that are left behind a page, where the next page begins
+  -- the rows that are left after a page, where the next page begins
   abbrev pub IsBehind : (next : ℕ) (xs read left page : List X) → Type 0
   IsBehind next xs read left page = (more : List X) × (left ≡ page ++ more) × IsLeft number next xs (read ++ page) more
 

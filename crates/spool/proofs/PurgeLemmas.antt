@@ -432,7 +432,7 @@ module _ (from : ℕ) (numbers page : List ℕ) (rises : IsRisingFrom same 0 num
   none_taken [] e = refl
   none_taken (x ∷ xs) e = absurd (let no = e in cc)
 
-  -- behind an empty page there is none
+  -- after an empty page there is none
   pub page_ends : (d : ℕ) → page ≡ [] → In d numbers → from ≤ d → ⊥
   page_ends d empty i from_here =
       subst (In d) (none_taken rest (sym page_front ∙ empty)) (in_rest d i from_here)

@@ -207,7 +207,7 @@ walk_more a b m z before upto from next page p same told up is q = record {
     at rows walk shown None e =
         walk_none before upto rows walk from next page shown (last_none page e) (omega (arith, up))
 
--- behind the last page
+-- after the last page
 pub purge_made : (a z : State) (next before from : ℕ) → before ≤ MAX_MOMENT → next < MAX_RECORDS → next < from
     → AltersWhere a z (AreWalkable next) (without_past before (λ d. nat_lt d from))
     → Enters a z next (Purge before ∷ []) true

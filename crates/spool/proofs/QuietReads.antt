@@ -63,7 +63,7 @@ module _ {X : Type 0} (number : X → Seq) (table : List X) where
       let after = behind read left h in
       (read ++ page, after.0, after.2, reads read after.0 (h.parted ∙ ap (λ rest. read ++ rest) after.1) so_far)
 
-  -- one page more, looked up behind the reads before, and taken in
+  -- one page more, looked up after the reads before, and taken in
   pub page_then : (a b m z : State) (rows : Rows) (P Q : List X → Type 0) (from next : Seq) (page : List X)
       → IsQuiet a b → Spares b m → (HasCleanDisk m → IsUnchanged b m) → Spares m z
       → (HasCleanDisk b → IsTables a.now rows → IsReadTo P from)

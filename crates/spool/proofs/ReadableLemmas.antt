@@ -136,7 +136,7 @@ refused_behind a b c quiet spares clean is_open rows fault tables refused =
     row_refusal_since a b c quiet.spares.survives spares.survives clean fault
     (refused at_b open_b (tables_along a b rows quiet at_b open_b tables))
 
--- A page that was looked up behind the reads before
+-- A page that was looked up after the reads before
 
 module _ {X : Type 0} (number : X → Seq) (table : List X) (a b m : State) (rows : Rows) (P : List X → Type 0)
     (from : Seq) (page : List X)

@@ -46,7 +46,7 @@ pub record IsOnlyRead (old new : State) : Type 0 where
 abbrev pub IsReadOpen : State → State → Type 0
 IsReadOpen old new = IsOnlyRead old new × IsTrue new.is_open
 
--- What each refusal says of the tables. A fault of the store is that of a statement, or of the look at the store behind
+-- What each refusal says of the tables. A fault of the store is that of a statement, or of the look at the store after
 -- them.
 abbrev pub IsUnadopted : (old new : State) → OpenFault → Type 0
 IsUnadopted old new NotOurs = tables.IsRefusedAt old.now table.NotOurs
@@ -94,7 +94,7 @@ LeavesRead old new (Store error) = IsOnlyRead old new
 LeavesRead old new OutOfMemory = IsOnlyRead old new
 LeavesRead old new _ = IsReadOpen old new
 
--- ---- between the check and the look at the store behind it
+-- ---- between the check and the look at the store after it
 
 -- The tables have sound rows, and the store holds each legal history that has these, of so many records.
 pub record AreAdopted (old new : State) (count : ℕ) : Type 0 where

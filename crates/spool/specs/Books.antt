@@ -60,7 +60,7 @@ IsLoadRefusal old new Closed = Unit {0}
 IsLoadRefusal old new OutOfMemory = Unit {0}
 IsLoadRefusal old new (Store error) = WasRefusal old new error
 
--- the store was seen to be usable behind the reads
+-- the store was seen to be usable after the reads
 abbrev pub IsSeen : Result Books LoadFault → Type 0
 IsSeen (Ok books) = Unit {0}
 IsSeen (Err Closed) = ⊥
@@ -99,7 +99,7 @@ abbrev pub error_of : RowFault → Error
 error_of (Failed error) = error
 error_of Unreadable = SqliteFailure DatabaseCorrupt
 
--- a look at the store is owed behind reads that were answered, or refused for memory
+-- a look at the store is owed after reads that were answered, or refused for memory
 abbrev pub AsksForLookBehind : Result Books RowFault → Type 0
 AsksForLookBehind (Ok books) = Unit {0}
 AsksForLookBehind (Err fault) = cause (error_of fault) ≡ Memory
@@ -109,7 +109,7 @@ abbrev pub IsOwnFault : Result Books RowFault → Error → Type 0
 IsOwnFault read told = (fault : RowFault) × (read ≡ Err fault) × (told ≡ error_of fault) × (¬ (cause told ≡ Memory))
 
 -- What is told of reads with this answer. A fault of the store has their own error, or that of the look at the store
--- behind them, where the store failed.
+-- after them, where the store failed.
 abbrev pub TellsLoad : State → State → Result Books RowFault → Result Books LoadFault → Type 0
 TellsLoad old new read (Ok books) = read ≡ Ok books
 TellsLoad old new read (Err Closed) = ⊥

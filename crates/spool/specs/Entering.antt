@@ -36,11 +36,11 @@ use Rattle.spool.specs.declared.transaction.WriteEnd.TheVariants.{Committed, Ill
 
 -- ---- what is asked before a record is written
 
--- whether an endpoint of this name may be put behind the records
+-- whether an endpoint of this name may be put after the records
 abbrev pub may_put : List Record → List ℕ → Bool
 may_put records name = not (has_endpoint records name) && nat_lt (length (endpoints records)) MAX_ENDPOINTS
 
--- whether an event of this id may be taken in behind the records for the endpoint of this name
+-- whether an event of this id may be taken in after the records for the endpoint of this name
 abbrev pub may_accept : List Record → List ℕ → List ℕ → Bool
 may_accept records name id = has_endpoint records name && not (is_some (known_as records name id))
 
@@ -48,7 +48,7 @@ may_accept records name id = has_endpoint records name && not (is_some (known_as
 abbrev pub accepting : List Record → List ℕ → List ℕ → Option ℕ
 accepting records name id = if may_accept records name id then Some (put_of records name) else None
 
--- whether the endpoint of this name may be subscribed to the topic behind the records
+-- whether the endpoint of this name may be subscribed to the topic after the records
 abbrev pub may_subscribe : List Record → List ℕ → List ℕ → Bool
 may_subscribe records topic name = has_endpoint records name
     && (is_pair_named records topic name || nat_lt (length (subscriptions records)) MAX_SUBSCRIPTIONS)
@@ -57,7 +57,7 @@ may_subscribe records topic name = has_endpoint records name
 abbrev pub subscribing : List Record → List ℕ → List ℕ → Option ℕ
 subscribing records topic name = if may_subscribe records topic name then Some (put_of records name) else None
 
--- whether an attempt of this number and status may be recorded behind the records for the event
+-- whether an attempt of this number and status may be recorded after the records for the event
 abbrev pub may_attempt : (records : List Record) (delivery attempt status : ℕ) → Bool
 may_attempt records delivery attempt status = is_pending records delivery
     && (attempt == length (attempts_of records delivery) + 1 && is_status status)
@@ -72,7 +72,7 @@ abbrev pub are_pending : List ℕ → Bool
 are_pending statuses = not (list_any is_delivered_status statuses)
     && nat_lt (count_by is_failed_status statuses) MAX_FAILURES
 
--- whether an attempt of this number and status may be the next one behind those of these statuses
+-- whether an attempt of this number and status may be the next one after those of these statuses
 abbrev pub may_be_next : (statuses : List ℕ) (attempt status : ℕ) → Bool
 may_be_next statuses attempt status = are_pending statuses && (attempt == length statuses + 1 && is_status status)
 
@@ -234,7 +234,7 @@ AsksForLook (Ok made) = made ≡ false
 AsksForLook (Err error) = cause error ≡ Memory
 
 -- What is told of a transaction with this answer. A doubt has the transaction's own error, and the store told no other
--- since, or that of the look at the store behind it, where the store failed.
+-- since, or that of the look at the store after it, where the store failed.
 abbrev pub Tells : State → State → Result Bool Error → WriteEnd → Type 0
 Tells old new tried Committed = tried ≡ Ok true
 Tells old new tried Illegal = tried ≡ Ok false

@@ -47,7 +47,7 @@ IsReadRefusal old new Given fault =
     IsTrue old.is_open → (records : List Record) → IsLegal records → IsTables old.now (rows_of records) → Given records
     → IsRowRefusal old new fault
 
--- the same behind the transaction
+-- the same after the transaction
 abbrev pub WasReadRefusal : (old new : State) → RowFault → Type 0
 WasReadRefusal old new fault =
     IsTrue old.is_open → (records : List Record) → IsLegal records → IsTables old.now (rows_of records)
@@ -80,7 +80,7 @@ pub record AreRestored (loaded : Endpoints) (records : List Record) (rows : List
   pub settled_seq : loaded.book.settled_seq ≤ length records
   pub names : loaded.names.items ≡ map known_of rows
 
--- these rows of the table were read behind those before
+-- these rows of the table were read after those before
 abbrev pub Restores : (old new : Endpoints) → List EndpointRow → List Record → Type 0
 Restores old new more records = ReadsOn (rows_of records).endpoints (AreRestored old records)
     (AreRestored new records) more
@@ -118,7 +118,7 @@ pub record HaveTopics (loaded : Endpoints) (records : List Record) (rows : List 
   pub settled_seq : loaded.book.settled_seq ≤ length records
   pub names : AreNames loaded.names.items records
 
--- these rows of the table were read behind those before
+-- these rows of the table were read after those before
 abbrev pub Subscribes : (old new : Endpoints) → List TopicRow → List Record → Type 0
 Subscribes old new more records =
     ReadsOn (rows_of records).topics (HaveTopics old records) (HaveTopics new records) more
@@ -164,7 +164,7 @@ pub record AreAccepted (loaded : Deliveries) (records : List Record) (rows : Lis
   pub settled_seq : loaded.book.settled_seq ≡ 0
   pub clock : loaded.clock ≡ greatest (map (λ (d : DeliveryRow). d.at) rows)
 
--- these rows of the table were read behind those before
+-- these rows of the table were read after those before
 abbrev pub Accepts : (old new : Deliveries) → List DeliveryRow → List Record → Type 0
 Accepts old new more records = ReadsOn (rows_of records).deliveries (AreAccepted old records)
     (AreAccepted new records) more
@@ -203,7 +203,7 @@ pub record HaveAttempts (loaded : Deliveries) (records : List Record) (rows : Li
   pub settled_seq : loaded.book.settled_seq ≡ 0
   pub clock : loaded.clock ≡ greatest_of (rows_of records).deliveries rows
 
--- these rows of the table were read behind those before
+-- these rows of the table were read after those before
 abbrev pub Attempts : (old new : Deliveries) → List AttemptRow → List Record → Type 0
 Attempts old new more records =
     ReadsOn (rows_of records).attempts (HaveAttempts old records) (HaveAttempts new records) more

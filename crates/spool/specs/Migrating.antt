@@ -70,7 +70,7 @@ LeavesMigrated old new fault = LeavesRead old new fault
 
 -- What each refusal says of tables of either version. They aren't the relay's either where meta tells version 1 and
 -- something has the name of the table of topics; damaged ones are of no later version, and have no sound rows of
--- either. A fault of the store is that of a statement, or of the look at the store behind them; of the transaction it
+-- either. A fault of the store is that of a statement, or of the look at the store after them; of the transaction it
 -- is one that the store told last, or nothing was written.
 abbrev pub IsUnmigrated : (old new : State) → OpenFault → Type 0
 IsUnmigrated old new NotOurs =

@@ -71,7 +71,7 @@ LeavesAt old new (Store cause) = MayBeMade old new × IsCause old new cause
 LeavesAt old new _ = ⊥
 
 -- What is told of an error for which the tables weren't made. A fault of the store has that error, and the store told
--- no other since, or that of the look at the store behind it, where the store failed.
+-- no other since, or that of the look at the store after it, where the store failed.
 abbrev pub TellsFault : State → State → Error → OpenFault → Type 0
 TellsFault old new error OutOfMemory = cause error ≡ Memory
 TellsFault old new error (Store told) =

@@ -14,11 +14,11 @@ pub record IsLeft {X : Type 0} (number : X → Seq) (from : Seq) (xs read left :
   pub before : IsRising number 0 from read
   pub behind : IsRising number from MAX_RECORDS left
 
--- some rows of a table come next behind those before: what `old` says of those before, `new` says of both
+-- some rows of a table come next after those before: what `old` says of those before, `new` says of both
 abbrev pub ReadsOn : {X : Type 0} → (table : List X) → (old new : List X → Type 0) → (more : List X) → Type 0
 ReadsOn table old new more = (before after : List _) → table ≡ before ++ (more ++ after) → old before
     → new (before ++ more)
 
--- some rows of a table come next behind those before, of which so much is known
+-- some rows of a table come next after those before, of which so much is known
 abbrev pub ComeNext : {X : Type 0} → (table : List X) → (old : List X → Type 0) → (more : List X) → Type 0
 ComeNext {X} table old more = (before : List X) × (after : List X) × (table ≡ before ++ (more ++ after)) × old before

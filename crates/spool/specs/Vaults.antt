@@ -28,6 +28,6 @@ pub record HoldsAt (s : State) (count : ℕ) (records : List Record) : Type 0 wh
   pub stands : Stands s (rows_of records)
   pub next : count ≡ length records
 
--- the vault's store has the rows of this legal history, and its next record is the one behind it
+-- the vault's store has the rows of this legal history, and its next record is the one after it
 abbrev pub Holds : {S : Type 0} → Ghosts S → VaultValue S → List Record → Type 0
 Holds g v records = HoldsAt (state g v.conn) v.next records

@@ -49,7 +49,7 @@ impl Doubt {
         self.from
     }
 
-    /// The number behind the last record.
+    /// The number after the last record.
     pub fn upto(&self) -> u64
         ensures { result ≡ self.now.upto }
     {

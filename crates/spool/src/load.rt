@@ -39,7 +39,7 @@ pub struct Books {
     pub clock: Moment,
 }
 
-/// Reads the books in one transaction, and looks whether the store is usable behind it.
+/// Reads the books in one transaction, and looks whether the store is usable after it.
 pub(crate) fn load_books<S: Alter>(
     conn: &mut Connection<S>,
     alloc: Global,

@@ -63,7 +63,7 @@ fn find_attempted<S: Alter>(
     }
 }
 
-// Whether an attempt of this number and status may be the next one behind those of these statuses.
+// Whether an attempt of this number and status may be the next one after those of these statuses.
 fn may_be_next(statuses: &[u16], attempt: u64, status: u16) -> bool
     ensures next { result ≡ may_be_next statuses.now attempt status }
     ensures number { IsTrue result → attempt < 2 ^ 63 }

@@ -6,7 +6,7 @@ ghost use Rattle.spool.specs.Books.{error_of};
 use spool_sql::{RowFault, Seq};
 use sqlite::{Error, ErrorCode};
 
-// The number behind the last row of a page that was read from this number on.
+// The number after the last row of a page that was read from this number on.
 pub(crate) fn behind(last: Seq, from: u64) -> Result<u64, RowFault>
     ensures number { IfOk result (λ next. next ≡ last + 1) }
     ensures above { IfOk result (λ next. from < next) }

@@ -204,7 +204,7 @@ fn a_flag_is_a_bool(rt: HostRuntime) -> Result<(), Fail> {
     walk(&rt, rt.alloc(), &FLAGS)
 }
 
-// The path has the topic behind the endpoint, whose names may be alike.
+// The path has the topic after the endpoint, whose names may be alike.
 static SUBSCRIPTIONS: [Case; 4] = [
     Case {
         method: b"PUT",

@@ -139,7 +139,7 @@ fn what_is_not_in_the_table_is_not_found(rt: HostRuntime) -> Result<(), Fail> {
 }
 
 // A name is what stands between two slashes, before a query, and nothing in it is decoded. It may be empty. A topic's
-// is what stands behind the last slash.
+// is what stands after the last slash.
 static BAD_NAMES: [Case; 3] = [
     Case {
         method: b"PUT",

@@ -135,7 +135,7 @@ fn is_told_at(alloc: Global, replies: &[Reply], place: usize, call: Call) -> boo
     }
 }
 
-/// Compares the replies from this place on with those of the path. The place behind them.
+/// Compares the replies from this place on with those of the path. The place after them.
 fn check_path(rt: &impl Abort, alloc: Global, replies: &[Reply], from: usize, path: Path) -> usize {
     let mut place = from;
     for call in path {

@@ -45,7 +45,7 @@ static COLUMNS: [Column; 28] = [
     Column("topics", "set_by"),
 ];
 
-/// What is put behind the column of another row, or of the same one.
+/// What is put after the column of another row, or of the same one.
 static NEAR: [&str; 4] = ["", "", " + 1", " - 1"];
 
 /// Values of their own.

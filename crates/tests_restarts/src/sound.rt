@@ -48,7 +48,7 @@ static FAULTS: &[&str] = &[
     // 6. Events.
     "SELECT count(*) FROM deliveries d JOIN endpoints e ON e.put = d.endpoint WHERE d.seq <= e.put \
      OR d.id IN ('', 'a b', 'http://x') OR length(d.body) > 65536 OR NOT d.at BETWEEN 0 AND 1099511627776",
-    // 7. Attempts: where they stand, their values, and what is behind a delivery or the tenth failure.
+    // 7. Attempts: where they stand, their values, and what is after a delivery or the tenth failure.
     "SELECT count(*) FROM attempts t WHERE t.seq <= t.delivery \
      OR t.number <> 1 + (SELECT count(*) FROM attempts o WHERE o.delivery = t.delivery AND o.seq < t.seq)",
     "SELECT count(*) FROM attempts t WHERE NOT (t.status = 0 OR t.status BETWEEN 100 AND 999) \

@@ -66,7 +66,7 @@ const RUN: [Call; 28] = [
 static PATHS: [Path; 1] = [&RUN];
 
 /// A batch of the run: at which places it is sealed and settled, what is printed there, and how
-/// many records there are behind it.
+/// many records there are after it.
 struct Step {
     sealed: (usize, &'static str),
     settled: (usize, &'static str),

@@ -481,7 +481,7 @@ fn events_and_attempts_are_removed(rt: HostRuntime) -> Result<(), Fail> {
     walk(&rt, rt.alloc(), &REMOVED, &ROWS)
 }
 
-/// Events 100 to 399 stand behind 4. A page has 256.
+/// Events 100 to 399 stand after 4. A page has 256.
 static PAGES: [Step; 7] = [
     Step::Add(3, 100, 400),
     Step::Page(0, 256, 4, 354),

@@ -1,4 +1,4 @@
-//! A case: a desk and a vault over a new store, threads that share the desk, and what is so behind their end.
+//! A case: a desk and a vault over a new store, threads that share the desk, and what is so after their end.
 ghost use Rattle.std.specs.Prelude.{◌≡◌, List};
 ghost use Rattle.relay_types.specs.declared.record.Record.{Record};
 
@@ -83,7 +83,7 @@ pub(crate) enum Ending {
     Otherwise,
 }
 
-/// What is so behind the end of all threads.
+/// What is so after the end of all threads.
 #[derive(Clone, Copy)]
 pub(crate) struct Found {
     /// Whether the store took all that was to be settled before.

@@ -22,7 +22,7 @@ handed_on {A} result why P h p =
     let err = err_from_is_err_and result h in
     subst (λ r. IfErr r P) (sym (err.1 ∙ ap (λ x. refusing {A = A} x) err.2)) p
 
--- a bad body of a new endpoint is one of the checks behind those of name and size
+-- a bad body of a new endpoint is one of the checks after those of name and size
 bad_put_on : (name : Text) (ask : Ask) (why : RequestError) → IsTrue (has_parts (Put name) ask)
     → OfBody IsBadPut (bytes_of ask.body) why → IsBadOn (Put name) ask why
 bad_put_on name ask fault.NotFound parts h = (parts, h)

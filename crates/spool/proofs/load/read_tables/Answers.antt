@@ -12,7 +12,7 @@ use Rattle.spool.proofs.QuietReads.{IsQuiet, quiet_then, clean_before, tables_al
 use Rattle.spool.proofs.ReadableLemmas.{legal_readable, refused_behind}
 use Rattle.spool.proofs.load.read_tables.Goals as goal
 
--- four reads, one behind another
+-- four reads, one after another
 spares_four : (a b t d e : State) → Spares a b → Spares b t → Spares t d → Spares d e → Spares a e
 spares_four a b t d e first second third fourth =
     spares_then a d e (spares_then a t d (spares_then a b t first second) third) fourth

@@ -16,7 +16,7 @@ use Rattle.delivery_book.proofs.Laws.{stands_accepts}
 use Rattle.delivery_book.proofs.Updates.{counted_most}
 use Rattle.delivery_book.proofs.book.DeliveryBook.stage_accepts.Goals as goal
 
--- the entries, with those of the events behind them where there was room
+-- the entries, with those of the events after them where there was room
 taken_in : (entries reserved events more all : List Entry) (is_done : Bool)
     → all ≡ cond is_done (reserved ++ events) reserved → is_done ≡ true → reserved ≡ entries
     → events ≡ more → all ≡ entries ++ more
