@@ -60,8 +60,9 @@ deb: $(RELAYD)
 	packaging/make-deb $(RELAYD) relayd.deb
 
 # Measures `relayd serve` beside nginx, relays in Go and Python, and PostgreSQL. It needs wrk and nginx, and leaves out Go or PostgreSQL if it lacks them.
+# With an older relayd in the same run: make load BEFORE=PROGRAM
 load: $(RELAYD)
-	scripts/bench http $(RELAYD)
+	scripts/bench http $(RELAYD) $(if $(BEFORE),--before $(BEFORE))
 
 # A program is proved and built if one of its sources is newer. `make test` builds both, too. `rt run` alone proves the crates below it
 # one after another; `rt all`, in the program's folder, proves these and the program side by side, and `rt run` takes what it leaves.

@@ -3,6 +3,7 @@
 All are on the same machine and the same disk:
 
 - nginx, which answers 202 and keeps nothing;
+- the relay, and with `--before PROGRAM` an older one, to show what changed;
 - a relay in Go (relay.go beside this file): net/http, SQLite in C, the relay's tables, up to 256
   events a commit;
 - a plain relay in Python's standard library, one durable INSERT before each 202;
@@ -20,7 +21,7 @@ after its run, and the subcommand fails if the file has fewer events than were a
 It needs wrk and nginx (Debian: `apt-get install wrk nginx-light`). The relay in Go needs golang-go
 and golang-github-mattn-go-sqlite3-dev, PostgreSQL needs postgresql. With strace it also prints
 where the committer's time goes at 64 connections.
-Usage: scripts/bench http RELAYD [ROUNDS [SECONDS [CONNECTIONS..]]]
+Usage: scripts/bench http RELAYD [--before PROGRAM] [ROUNDS [SECONDS [CONNECTIONS..]]]
 """
 import contextlib
 import http.client
@@ -117,7 +118,7 @@ def measure(folder, start, table, connections, seconds):
     return Run(rate, half, most, used / count * 1e6, failed)
 
 
-def servers_of(folder, program):
+def servers_of(folder, program, before):
     """The servers that this machine has: for each, what measures it."""
     def server(start, table=None):
         return lambda connections, seconds: measure(folder, start, table, connections, seconds)
@@ -126,6 +127,8 @@ def servers_of(folder, program):
         "nginx, nothing kept": server(lambda _: start_nginx(folder)),
         "relayd": server(lambda file: start_relay(folder, program, file.name), "deliveries"),
     }
+    if before:
+        servers["relayd before"] = server(lambda file: start_relay(folder, before, file.name), "deliveries")
     if in_go := built_go(folder):
         servers["a relay in Go"] = server(lambda file: start_go(in_go, file), "deliveries")
     servers["a plain relay in Python"] = server(start_plain, "events")
@@ -227,13 +230,18 @@ def measure_posts(folder, program, count):
 
 
 def main():
+    before = None
+    if "--before" in sys.argv[:-1]:
+        at = sys.argv.index("--before")
+        before = pathlib.Path(sys.argv[at + 1]).resolve()
+        del sys.argv[at : at + 2]
     program = program_of(__doc__)
     needs("wrk", "wrk")
     needs("nginx", "nginx-light")
     rounds, seconds = (int(it) for it in (sys.argv[2:4] + ["3", "3"][len(sys.argv[2:4]):]))
     with tempfile.TemporaryDirectory() as name:
         folder = pathlib.Path(name)
-        servers = servers_of(folder, program)
+        servers = servers_of(folder, program, before)
         print_table(measure_rounds(servers, rounds, seconds, list(map(int, sys.argv[4:])) or CONNECTIONS))
         measure_threads(folder, program, seconds)
         if shutil.which("strace"):
