@@ -56,7 +56,7 @@ pub(crate) enum Next {
 }
 
 /// Commits what waits, with the lock free during each commit, until the end was asked for and nothing waits, or until a
-/// commit fails. Want of memory is tried again, and the ninth in a row ends it. It gives the keeper back.
+/// commit fails. After a failed allocation it tries again; the ninth in a row ends it. It gives the keeper back.
 pub fn committer_run<L: Ledger, I: LogId, K: Keeper + Drop, R: Wait + Clock>(
     rt: &R,
     shared: &Shared<L, I>,

@@ -238,7 +238,7 @@ page_is w name view counts e f =
     λ i. option_map (λ v. record { view = v; counts = f i }) (e i) in
     page ∙ ap (λ records. endpoint_page records name) (settled_front w)
 
--- The answer to a call is its move: one law for its refusals, one for out of memory, one for what it makes
+-- The answer to a call is its move: one law for its refusals, one if an allocation fails, one for what it makes
 
 fault_refuses : {A : Type 0} (faults : Faults) (w : World) (answer : Answer A) (r : Refusal)
     → first_fault faults ≡ Err r → unless faults w answer ≡ refused w r.number r.fault
@@ -277,7 +277,7 @@ makes d new answer a made = λ w h.
 abbrev refusing_by : {A : Type 0} → ℕ → Result A Refusal
 refusing_by number = Err (refusal number fault.OutOfMemory)
 
--- a call that takes memory may be refused for want of it
+-- a call that takes memory may be refused as out of memory
 pub lacks : {A : Type 0} (d : DeskValue) (answer : World → Answer A) (number : ℕ)
     → ((w : World) → StandsFor d w → (answer w).memory ≡ Some number)
     → IsMove d answer (Err (refusal number fault.OutOfMemory)) d
@@ -303,7 +303,7 @@ pub leaves : {A : Type 0} (old a b : DeskValue) (move : World → Answer A) (rep
     → IsMove old move reply b → a ≡ b → IsMove old move reply a
 leaves old a b move reply m e = subst (λ new. IsMove old move reply new) (sym e) m
 
--- what takes memory is made, or the call is refused for want of it
+-- what takes memory is made, or the call is refused as out of memory
 pub makes_or_lacks : {A E : Type 0} (d new : DeskValue) (answer : World → Answer A) (number : ℕ) (made : Result A E)
     → IfOk made (λ a. (w : World) → StandsFor d w → ((answer w).reply ≡ Ok a) × StandsFor new (answer w).next)
     → OnErr made (new ≡ d)

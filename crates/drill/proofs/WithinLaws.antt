@@ -482,14 +482,14 @@ commit_shows : (w : World) (told : Reply) → shown w commit told ≡ 0
 commit_shows w (reply.Line told) = refl
 commit_shows w told = refl
 
--- after the commit a reply shows as much as ahead of it
+-- after the commit a reply shows as much as before it
 shows_behind : (s mid : Session) (event : Event) (told committed : Reply) → s.world.out ≡ Batch
     → Makes s commit committed mid → shown mid.world event told ≡ shown s.world event told
 shows_behind s mid event told committed out commits =
     let (o, left, how, same) = commit_told s mid committed out commits in ap (λ (t : Session). shown t.world event told)
     same ∙ shows s.world event told o left
 
--- the commit comes to stand after
+-- the commit comes last
 forth : (events : List Event) (replies : List Reply) (s last : Session) (committed : Reply) (n : ℕ)
     → s.world.out ≡ Batch → HasMarksInOrder s.world → list_all is_within events ≡ true
     → Runs s (commit ∷ events) (committed ∷ replies) last n

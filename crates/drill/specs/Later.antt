@@ -45,8 +45,8 @@ RestartsKeepWhatWasShown =
     → IsOpening w → Runs (session_of w) events replies first acknowledged → RunsAgain first.world runs last
     → KeepsFirst last acknowledged (all_records first.world)
 
--- The same law of scripts: what the first lines showed, a stop leaves in front after further ones, however many stops
--- are among them.
+-- The same law of scripts: what the first lines showed survives a stop after further ones, however many stops are
+-- among them.
 abbrev pub StopsKeepWhatWasShown : Type 0
 StopsKeepWhatWasShown =
     (lines more : List Line) (replies others : List line.Reply) (first last : Session) (acknowledged later : ℕ)

@@ -46,7 +46,7 @@ impl Attempt for Replies {
     }
 }
 
-/// The status of a reply that isn't out of memory.
+/// The status of a reply other than that of a failed allocation.
 pub(crate) fn reply_told(reply: &Reply) -> Result<u64, Told> {
     if reply.status != 503 {
         return Ok(u64::from(reply.status));

@@ -127,7 +127,7 @@ const WITH_ANOTHER_TARGET: [Call; 6] = [
 #[derive(Clone, Copy)]
 enum Store {
     Own,
-    /// Its own, in which one more record is committed after its back.
+    /// Its own, in which one more record is committed without the desk.
     OneMore,
     /// That of another run.
     Of(Path),
