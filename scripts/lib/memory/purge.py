@@ -5,7 +5,7 @@ purge the relay holds at most a fifth of the bytes that it held before, by its a
 second and the third round have it hold no more than the first, and neither its memory (the most
 that was resident) nor its two files grow by more than a tenth. The second round has the ids of the
 first, with other bytes; the third has new ones. Pages are asked for while it purges, and the
-longest wait for one is printed.
+longest wait for one is printed. The relay has the settings of malloc of packaging/relayd.service.
 Usage: scripts/memory purge RELAYD [EVENTS]: 200,000 events a round if left out
 """
 import concurrent.futures
@@ -13,12 +13,13 @@ import contextlib
 import multiprocessing
 import os
 import pathlib
+import re
 import sys
 import tempfile
 import time
 
 from lib import faults
-from lib.command import Counts, needs, program_of
+from lib.command import ROOT, Counts, needs, program_of
 from lib.process import status_of
 from lib.serving import ask, free_port, nginx_of, purge, put, relay_of, submit, wait_until
 
@@ -72,6 +73,11 @@ def fill(counts, watched, pool, place, letter, events):
     counts.check(f"round {place + 1}: all are delivered", wait_until(done, 60 + events * SECONDS_OF_AN_EVENT, 0.5))
 
 
+def settings_of_unit():
+    """What the relay's unit sets of malloc."""
+    return dict(re.findall(r"^Environment=(GLIBC_TUNABLES)=(.*)$", (ROOT / "packaging/relayd.service").read_text(), re.M))
+
+
 def seconds_of(call):
     began = time.monotonic()
     return call(), time.monotonic() - began
@@ -116,7 +122,8 @@ def main():
         library, asked, file, port = faults.compiled(folder), pathlib.Path(folder, "asked"), f"{folder}/relay.db", free_port()
         asked.write_bytes(faults.EMPTY)
         stack.enter_context(nginx_of(folder, "subscriber", f"server {{ listen 127.0.0.1:{port}; location / {{ return 200; }} }}"))
-        relay = stack.enter_context(relay_of(relayd, file, *OPTIONS, env=faults.settings(library, asked=asked, held=1)))
+        env = {**faults.settings(library, asked=asked, held=1), **settings_of_unit()}
+        relay = stack.enter_context(relay_of(relayd, file, *OPTIONS, env=env))
         for number in range(ENDPOINTS):
             put(relay.address, f"e{number}", port, most=1000)
         play(counts, Watched(relay, file, asked), pool, events)
