@@ -17,7 +17,7 @@ import typing
 
 from lib.command import SCRIPTS
 from lib.formats import make_tables
-from lib.serving import SECRET, STARTED, free_port, wait_until
+from lib.serving import SECRET, STARTED, free_port, front_section, wait_until
 
 ENDPOINTS = 40
 BODY = "x" * 100
@@ -27,6 +27,14 @@ events { worker_connections 4096; }
 http {
   access_log off; client_body_temp_path %(folder)s/body; keepalive_timeout 0;
   server { listen 127.0.0.1:%(port)d; location / { return 202 '{"id":"x","seq":1}'; } }
+}
+"""
+FRONT = """
+worker_processes 4; pid %s/front.pid; error_log %s/front.log;
+events { worker_connections 4096; }
+http {
+  access_log off; client_body_temp_path %s/body; proxy_temp_path %s/proxy;
+%s
 }
 """
 PLAIN = """
@@ -104,6 +112,15 @@ def start_nginx(folder):
     port = free_port()
     (folder / "nginx.conf").write_text(NGINX % {"folder": folder, "port": port})
     return started("nginx", "-c", folder / "nginx.conf", "-g", "daemon off;", stderr=subprocess.DEVNULL), port
+
+
+def start_front(folder, relay):
+    """The proxy of packaging/nginx.conf in front of a relay that listens at this port."""
+    port = free_port()
+    (folder / "front.conf").write_text(FRONT % (*[folder] * 4, front_section(folder, f"127.0.0.1:{relay}", port)))
+    front = started("nginx", "-c", folder / "front.conf", "-g", "daemon off;", stderr=subprocess.DEVNULL)
+    wait_for(port)
+    return front, port
 
 
 def start_plain(file):

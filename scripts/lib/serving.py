@@ -292,14 +292,19 @@ def nginx_of(folder, name, *sections):
 
 @contextlib.contextmanager
 def front_of(folder, relay):
-    """The proxy of packaging/nginx.conf in front of a relay, at a port of its own, with a certificate that it makes in the folder."""
+    """The proxy of packaging/nginx.conf in front of a relay, at a port of its own."""
     port = free_port()
+    with nginx_of(folder, "front", front_section(folder, "%s:%d" % relay.address, port)):
+        yield port
+
+
+def front_section(folder, relay, port):
+    """packaging/nginx.conf for a relay at this address, to listen at this port, with a certificate that is made in the folder."""
     ran("openssl", "req", "-x509", "-newkey", "rsa:2048", "-nodes", "-days", "1", "-subj", "/CN=localhost", "-keyout", f"{folder}/key.pem", "-out",
         f"{folder}/certificate.pem")
-    changes = {"/etc/relayd/": f"{folder}/", "127.0.0.1:8080": "%s:%d" % relay.address, "listen 8443": f"listen 127.0.0.1:{port}",
-               "SUBMITTER-TOKEN": SUBMITTER, "OPERATOR-TOKEN": OPERATOR, "/usr/share/relayd": str(ROOT / "packaging")}
-    with nginx_of(folder, "front", changed("nginx.conf", changes)):
-        yield port
+    changes = {"/etc/relayd/": f"{folder}/", "127.0.0.1:8080": relay, "listen 8443": f"listen 127.0.0.1:{port}", "SUBMITTER-TOKEN": SUBMITTER,
+               "OPERATOR-TOKEN": OPERATOR, "/usr/share/relayd": str(ROOT / "packaging")}
+    return changed("nginx.conf", changes)
 
 
 def free_port():

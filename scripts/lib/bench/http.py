@@ -15,8 +15,9 @@ wrk sends each server POSTs of an event of 100 bytes, a connection for each, for
 are measured, one after another. A table has the median of the rounds, with the lowest and the
 highest: answers a second, latency (50th and 99th of 100), and the processor time of an answer,
 without the client's. Then it prints how much processor time the relay's threads take, how much
-memory it has for an event, and how many posts a second reach a subscriber. Each relay is killed
-after its run, and the subcommand fails if the file has fewer events than were answered 202.
+memory it has for an event, and how many posts a second reach a subscriber. Last come rounds through
+the proxy of packaging/nginx.conf, whose clients keep their connections. Each relay is killed after
+its run, and the subcommand fails if the file has fewer events than were answered 202.
 
 It needs wrk and nginx (Debian: `apt-get install wrk nginx-light`). The relay in Go needs golang-go
 and golang-github-mattn-go-sqlite3-dev, PostgreSQL needs postgresql. With strace it also prints
@@ -36,18 +37,21 @@ import sys
 import tempfile
 import threading
 import time
+import typing
 
 from lib.command import needs, program_of
 from lib.process import status_of
 from lib.servers import BODY, ENDPOINTS, Postgres, Run, built_go, count_rows, postgres_programs, processor_of, start_go, start_nginx, start_plain
-from lib.servers import started, wait_for
-from lib.serving import SECRET, free_port
+from lib.servers import start_front, started, wait_for
+from lib.serving import SECRET, SUBMITTER, free_port
 
 CONNECTIONS = (1, 8, 64, 256)
+FRONT_CONNECTIONS = (64, 256)
+CLOSED = ("connection", "close")
 LUA = """
 local count = 0
 wrk.method, wrk.body = "POST", "%s"
-wrk.headers["connection"] = "close"
+wrk.headers["%s"] = "%s"
 request = function()
   count = count + 1
   return wrk.format(nil, "/v1/endpoints/e" .. (count %% %d) .. "/events")
@@ -62,16 +66,28 @@ def ask(port, method, path, body=None):
     return answer.status, answer.read()
 
 
-def load(folder, port, connections, seconds):
-    """What wrk measures: answers a second, those that weren't 2xx, and the latencies in milliseconds."""
+class Load(typing.NamedTuple):
+    """What wrk measured: answers a second, in how many milliseconds half and 99 of 100 came, how many weren't 2xx, and how many requests got
+    no answer."""
+    rate: float
+    half: float
+    most: float
+    failed: int
+    lost: int
+
+
+def load(folder, port, connections, seconds, scheme="http", header=CLOSED):
+    """Has wrk submit events over so many connections, with a header of its own."""
     script = folder / "load.lua"
-    script.write_text(LUA % (BODY, ENDPOINTS))
+    script.write_text(LUA % (BODY, *header, ENDPOINTS))
     words = ["wrk", "-t", str(min(4, connections)), "-c", str(connections), "-d", f"{seconds}s", "--latency", "-s", str(script)]
-    told = subprocess.run([*words, f"http://127.0.0.1:{port}/"], capture_output=True, text=True, check=True).stdout
+    told = subprocess.run([*words, f"{scheme}://127.0.0.1:{port}/"], capture_output=True, text=True, check=True).stdout
     unit = {"us": 0.001, "ms": 1.0, "s": 1000.0}
     times = {part: float(number) * unit[it] for part, number, it in re.findall(r"(50|99)%\s+([\d.]+)(us|ms|s)", told)}
     failed = re.search(r"Non-2xx or 3xx responses: (\d+)", told)
-    return float(re.search(r"Requests/sec:\s+([\d.]+)", told)[1]), int(failed[1]) if failed else 0, times["50"], times["99"]
+    lost = re.search(r"Socket errors: connect (\d+), read (\d+), write (\d+), timeout (\d+)", told)
+    rate = float(re.search(r"Requests/sec:\s+([\d.]+)", told)[1])
+    return Load(rate, times["50"], times["99"], int(failed[1]) if failed else 0, sum(map(int, lost.groups())) if lost else 0)
 
 
 def start_relay(folder, program, name):
@@ -104,18 +120,24 @@ def measure(folder, start, table, connections, seconds):
     process, port = start(file)
     wait_for(port)
     before = processor_of(process)
-    rate, failed, half, most = load(folder, port, connections, seconds)
-    used, count = processor_of(process) - before, rate * seconds
+    found = load(folder, port, connections, seconds)
+    used, count = processor_of(process) - before, found.rate * seconds
     if table:
         process.kill()
     else:
         process.terminate()
     process.wait()
-    if table and (kept := count_rows(file, table)) < count - failed:
-        sys.exit(f"{count - failed:.0f} events were answered 202, and {kept} are in the table {table}")
-    for path in folder.glob("measured.db*"):
+    if table:
+        check_kept(file, table, count - found.failed)
+    return Run(found.rate, found.half, found.most, used / count * 1e6, found.failed)
+
+
+def check_kept(file, table, count):
+    """Ends with a fault if a table has fewer events than were answered 202. The files go."""
+    if (kept := count_rows(file, table)) < count:
+        sys.exit(f"{count:.0f} events were answered 202, and {kept} are in the table {table}")
+    for path in file.parent.glob(f"{file.name}*"):
         path.unlink()
-    return Run(rate, half, most, used / count * 1e6, failed)
 
 
 def servers_of(folder, program, before):
@@ -168,7 +190,7 @@ def measure_threads(folder, program, seconds):
     """How long the relay's threads ran and waited at 64 connections, and how its memory grew."""
     relay, port = start_relay(folder, program, "threads.db")
     memory, before = status_of(relay.pid, "VmRSS"), times_of(relay)
-    rate, _, _, _ = load(folder, port, 64, seconds)
+    rate = load(folder, port, 64, seconds).rate
     ran, waited, others, others_waited = (after - it for after, it in zip(times_of(relay), before))
     grown, kept = status_of(relay.pid, "VmRSS") - memory, json.loads(ask(port, "GET", "/v1/status")[1])["pending"]
     count = rate * seconds
@@ -186,7 +208,7 @@ def measure_calls(folder, program, seconds):
     words = ("strace", "-c", "-w", "-p", relay.pid, "-o", folder / "calls")
     tracer = started(*words, stdout=subprocess.DEVNULL, stderr=subprocess.DEVNULL)
     time.sleep(1)
-    rate, _, _, _ = load(folder, port, 64, seconds)
+    rate = load(folder, port, 64, seconds).rate
     tracer.send_signal(signal.SIGINT)
     tracer.wait()
     print(f"\nUnder strace, {rate:.0f} answers a second; the committer's calls, with their seconds:\n")
@@ -229,6 +251,27 @@ def measure_posts(folder, program, count):
     return delivered, taken
 
 
+def measure_front(folder, program, rounds, seconds):
+    """Answers a second through the proxy of packaging/nginx.conf, whose clients keep their connections, and how many answers were lost."""
+    found = {it: [] for it in FRONT_CONNECTIONS}
+    for _ in range(rounds):
+        for connections in found:
+            relay, port = start_relay(folder, program, "front.db")
+            front, at = start_front(folder, port)
+            found[connections].append(load(folder, at, connections, seconds, "https", ("authorization", f"Bearer {SUBMITTER}")))
+            relay.kill()
+            relay.wait()
+            front.terminate()
+            front.wait()
+            check_kept(folder / "front.db", "deliveries", found[connections][-1].rate * seconds - found[connections][-1].failed)
+    print("\n| through packaging/nginx.conf | connections | answers a second | half within, ms | 99 of 100 within, ms | not taken | no answer |")
+    print("|---|---|---|---|---|---|---|")
+    for connections, runs in found.items():
+        rates, halves, mosts, failed, lost = zip(*runs)
+        cells = ("relayd", connections, spread(rates, 0), spread(halves, 2), spread(mosts, 2), sum(failed), sum(lost))
+        print(f"| {' | '.join(map(str, cells))} |")
+
+
 def main():
     before = None
     if "--before" in sys.argv[:-1]:
@@ -247,4 +290,5 @@ def main():
         if shutil.which("strace"):
             measure_calls(folder, program, seconds)
         delivered, taken = measure_posts(folder, program, 8000)
+        measure_front(folder, program, rounds, seconds)
     print(f"\nOf the relay, {delivered} events were submitted, kept, posted and settled in {taken:.1f} s, {delivered / taken:.0f} a second.")

@@ -4,8 +4,7 @@ A machine's disk and its other work change from one minute to the next. So the t
 in pairs, each pair in an order of its own, and what is told is the mean of the pairs' differences
 with its standard error. Of `relayd serve`, under the load of `scripts/bench http`: answers a
 second, and processor time for each answer, at 1, 8, 64 and 256 connections. Of `bench`: its
-processor time with submitters over a file, with workers, and with records that are staged and
-settled.
+processor time with events that are submitted and posted in one thread, over a file.
 
 Each argument is a folder with relayd/out/relayd and bench/out/bench, such as crates/; if a folder
 has no bench, only the relay is measured. It needs wrk.
@@ -25,13 +24,7 @@ from lib.bench import http
 from lib.command import end_with_usage
 
 CONNECTIONS = (1, 8, 64, 256)
-BENCH = (
-    ("1 submitter over a file", ("submitters", "1", "2000", "FILE")),
-    ("64 submitters over a file", ("submitters", "64", "40000", "FILE")),
-    ("64 submitters over memory", ("submitters", "64", "40000")),
-    ("8 workers", ("workers", "8", "10000")),
-    ("events that are submitted", ("submit", "50000", "FILE")),
-)
+SUBMITTED = 50_000
 
 
 def told(name, pairs):
@@ -64,20 +57,20 @@ def main():
         def answers(crates, connections):
             relay, port = http.start_relay(folder, crates / "relayd/out/relayd", "relay.db")
             before = http.times_of(relay)
-            rate, failed, _, _ = http.load(folder, port, connections, seconds)
+            found = http.load(folder, port, connections, seconds)
             after = http.times_of(relay)
             relay.terminate()
             relay.wait()
             for file in folder.glob("relay.db*"):
                 file.unlink()
-            if failed:
-                sys.exit(f"{failed} answers of {crates} were no 2xx")
-            return rate, (after[0] + after[2] - before[0] - before[2]) / (rate * seconds) * 1e6
+            if found.failed:
+                sys.exit(f"{found.failed} answers of {crates} were no 2xx")
+            return found.rate, (after[0] + after[2] - before[0] - before[2]) / (found.rate * seconds) * 1e6
 
-        def processor(crates, words):
-            path = folder / "bench"
+        def processor(crates):
             before = resource.getrusage(resource.RUSAGE_CHILDREN)
-            subprocess.run([crates / "bench/out/bench", *(path if it == "FILE" else it for it in words)], stdout=subprocess.DEVNULL, check=True)
+            words = [crates / "bench/out/bench", "submit", str(SUBMITTED), folder / "bench"]
+            subprocess.run(words, stdout=subprocess.DEVNULL, check=True)
             after = resource.getrusage(resource.RUSAGE_CHILDREN)
             for file in folder.glob("bench*"):
                 file.unlink()
@@ -88,5 +81,4 @@ def main():
             told(f"answers a second, {connections} connections", [(before[0], after[0]) for before, after in pairs])
             told(f"processor time of an answer in us, {connections} connections", [(before[1], after[1]) for before, after in pairs])
         if all((it / "bench/out/bench").exists() for it in both):
-            for what, words in BENCH:
-                told(f"processor time in s, {what}", paired(count, lambda crates: processor(crates, words), both))
+            told(f"processor time in s, {SUBMITTED:,} events submitted and posted", paired(count, processor, both))
