@@ -1,5 +1,6 @@
 //! The opening of a file.
-ghost use Rattle.std.specs.Prelude.{◌≡◌, ◌≢◌, ◌↔◌, ◌<◌, false, Err, IfErr, IfOk, IsTrue, MatchResult};
+ghost use Rattle.std.specs.Prelude.{◌≡◌, ◌≢◌, ◌↔◌, ◌<◌, true, false, Err, IfErr, IfOk, IsTrue, MatchResult};
+ghost use Rattle.std.specs.Fs.{new_options, with_create_new, with_write};
 ghost use Rattle.permits.specs.declared.pool.TheConstants.{PARTS};
 ghost use Rattle.sqlite.specs.Files.{file_state, over_files, IsOpened};
 ghost use Rattle.sqlite.specs.Held.{state};
@@ -174,12 +175,7 @@ pub fn open<L: Ledger, S: Alter>(
 fn make_private(rt: &HostRuntime, path: &str) -> Result<(), OpenFault>
     ensures fault { IfErr result IsOfPath }
 {
-    match OpenOptions::new()
-        .write(true)
-        .create_new(true)
-        .mode(OWNER_ALONE)
-        .open(rt, path)
-    {
+    match new_file_options().mode(OWNER_ALONE).open(rt, path) {
         Ok(_empty) => Ok(()),
         Err(error) => match error.kind() {
             ErrorKind::AlreadyExists => Ok(()),
@@ -187,6 +183,15 @@ fn make_private(rt: &HostRuntime, path: &str) -> Result<(), OpenFault>
             _ => Err(CANNOT_OPEN),
         },
     }
+}
+
+// How a new file is opened. One that another relay has made by then is neither opened nor cut.
+fn new_file_options() -> OpenOptions
+    ensures { result ≡ with_create_new (with_write new_options true) true }
+{
+    let mut options = OpenOptions::new();
+    options.write(true).create_new(true);
+    options
 }
 
 // Whether a file of so many bytes is new.
