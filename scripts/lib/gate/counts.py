@@ -13,7 +13,7 @@ import sys
 from lib.command import ROOT, end_with_usage
 
 PARTS = ("src", "specs", "proofs")
-TESTS = ("tests_", "bench", "check_files", "driver")
+TESTS = ("tests_", "bench", "driver")
 CLAUSE = re.compile(r"\s*(requires|ensures|invariant)\b")
 
 

@@ -75,6 +75,7 @@ start scripts/script worked $relayd
 start scripts/script limits $relayd
 start scripts/script signatures $relayd
 start scripts/store files $relayd $driver
+start scripts/store checks $relayd
 start scripts/store tables $driver
 start scripts/script requests $driver
 start scripts/script queue $driver

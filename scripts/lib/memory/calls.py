@@ -46,7 +46,7 @@ def table():
 
 # The public calls of the sources.
 
-PROGRAMS = ("bench", "check_files", "driver", "relayd")
+PROGRAMS = ("bench", "driver", "relayd")
 # What says in an answer that memory was lacking: an allocator's refusal, a store's error, and what the repository's own faults are made of.
 TELLS = {"AllocError", "Error", "io", "HostRuntime", "Global"}
 ITEM = re.compile(

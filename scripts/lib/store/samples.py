@@ -1,7 +1,7 @@
-"""Makes the files of crates/check_files/data anew, but for those that a relay of version 1 left.
+"""Makes the files of vectors/check/files anew, except those that a relay of version 1 left.
 
-The merge gate has `relayd check` report of them. It is no test: run it if the tables change, and
-compare the counts in crates/check_files/stdout.
+`scripts/store checks` has `relayd check` report of them. This is no test: run it if the tables
+change, and compare the counts in vectors/check/reports.
 Usage: scripts/store samples RELAYD
 """
 import contextlib
@@ -13,7 +13,7 @@ from lib.command import ROOT, program_of
 from lib.rows import copy_store
 from lib.serving import Relay, Subscriber, ask, put, submit, wait_until
 
-DATA = ROOT / "crates" / "check_files" / "data"
+DATA = ROOT / "vectors" / "check" / "files"
 # What a relay of version 1 left, in its log and copied, and that with a damaged row.
 OF_FIRST = ("first-version", "first-version-wal", "first-version-copied", "first-version-damaged")
 # The smallest page of SQLite's.
