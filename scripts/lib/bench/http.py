@@ -80,7 +80,7 @@ def load(folder, port, connections, seconds, scheme="http", header=CLOSED):
     """Has wrk submit events over so many connections, with a header of its own."""
     script = folder / "load.lua"
     script.write_text(LUA % (BODY, *header, ENDPOINTS))
-    words = ["wrk", "-t", str(min(4, connections)), "-c", str(connections), "-d", f"{seconds}s", "--latency", "-s", str(script)]
+    words = ["wrk", "-t", str(min(4, connections)), "-c", str(connections), "-d", f"{seconds}s", "--timeout", "60s", "--latency", "-s", str(script)]
     told = subprocess.run([*words, f"{scheme}://127.0.0.1:{port}/"], capture_output=True, text=True, check=True).stdout
     unit = {"us": 0.001, "ms": 1.0, "s": 1000.0}
     times = {part: float(number) * unit[it] for part, number, it in re.findall(r"(50|99)%\s+([\d.]+)(us|ms|s)", told)}
