@@ -1,15 +1,17 @@
 -- What stays of the marks of Purges, and of the order of the outcomes that wait, as the book changes.
-use Rattle.std.proofs.Common.{◌≡◌, ℕ, zero, suc, ◌+◌, ◌-◌, ◌<◌, ◌≤◌, ◌&&◌, Bool, true, false, not, List, [], ◌∷◌, ◌++◌}
+use Rattle.std.proofs.Common.{◌≡◌, ◌⊎◌, ℕ, zero, suc, ◌+◌, ◌-◌, ◌<◌, ◌≤◌, ◌&&◌, ◌||◌, Bool, true, false, not}
+use Rattle.std.proofs.Common.{List, [], ◌∷◌, ◌++◌}
 use Rattle.std.proofs.Common.{Option, Some, None}
 use Rattle.std.proofs.Common.{length, map, take, drop, set, get_or, append-nil, refl, sym, ◌∙◌, ap, subst, arith, eqb}
 use Rattle.std.proofs.Common.{leb, ltb, cond, true≢false}
 use Rattle.std.proofs.Common.{⊎_elim, length-append}
 use Rattle.std.specs.Prelude.{find, is_some, option_map, bytes_eq}
-use Rattle.std.specs.List.{AllByRecursion, AllPairs, list_all}
+use Rattle.std.specs.Bool.{then_some}
+use Rattle.std.specs.List.{AllByRecursion, AllPairs, list_all, list_any}
 use Rattle.std.specs.Option.{option_map_or}
-use Rattle.std.proofs.lemmas.Bool.{le-leb, lt-leb, leb-true, lt-ltb, ltb-true, cases_lt}
+use Rattle.std.proofs.lemmas.Bool.{eq-eqb, le-leb, lt-leb, leb-true, lt-ltb, ltb-true, cases_lt, or_left, or_right}
 use Rattle.std.proofs.lemmas.List.{drop_all, get_or-map, length-map, get_or_append_left, get_or-append_right, take_all}
-use Rattle.std.proofs.lemmas.List.Folds.{list_all-append, list_all-map}
+use Rattle.std.proofs.lemmas.List.Folds.{list_all-append, list_all-map, list_any-append, list_any_kept, list_any_more}
 use Rattle.std.proofs.lemmas.List.Quantifiers.{all_pairs_push}
 use Rattle.relay_types.specs.declared.state.State.TheVariants.{Pending}
 use Rattle.relay_types.specs.Deliveries.{is_in_state}
@@ -18,10 +20,20 @@ use Rattle.relay_types.proofs.RowLaws.{find_map}
 use Rattle.delivery_book.specs.declared.entry.Entry.{Entry}
 use Rattle.delivery_book.specs.declared.entry.Unsettled.{Unsettled}
 use Rattle.delivery_book.specs.Entries.{entry_at, is_done_before, is_entry_as, is_kept, is_left, marked, state_in}
-use Rattle.delivery_book.specs.Fields.{AreApart, AreFirst, AreInOrder, AreMarked, is_later, is_not_before}
-use Rattle.delivery_book.specs.Fields.{is_rightly_taken}
-use Rattle.delivery_book.specs.Fields.{is_taken_below}
+use Rattle.delivery_book.specs.Fields.{AreApart, AreInOrder, AreMarked, IsNamed, is_later, is_not_before}
+use Rattle.delivery_book.specs.Fields.{is_rightly_taken, is_taken_below, is_taken_by}
 use Rattle.delivery_book.proofs.Updates.{KeepsKeys, all_at, all_weaker}
+
+-- where a test passes before a change, another passes after it
+any-changed : (p q : Entry → Bool) (g : Entry → Entry) (entries : List Entry)
+    → ((e : Entry) → p e ≡ true → q (g e) ≡ true) → list_any p entries ≡ true → list_any q (map g entries) ≡ true
+any-changed p q g [] step h = absurd (true≢false (sym h))
+any-changed p q g (e ∷ es) step h = pick (p e) refl h (any-changed p q g es step)
+  where
+    pick : (b : Bool) → p e ≡ b → b || list_any p es ≡ true
+        → (list_any p es ≡ true → list_any q (map g es) ≡ true) → q (g e) || list_any q (map g es) ≡ true
+    pick true is any others = or_left (q (g e)) _ (step e is)
+    pick false is any others = or_right (q (g e)) _ (others any)
 
 -- Tests of one entry
 
@@ -257,6 +269,45 @@ order_from unsettled next seq k d order h l =
     (λ none. subst (λ n. seq ≤ (get_or unsettled n d).seq) (omega (arith, none)) h)
     (cases_lt 0 k)
 
+-- The Purge that is named
+
+-- what a list still has of a Purge that took one of another
+named_if : (first : Option ℕ) (entries others : List Entry)
+    → ((p : ℕ) → list_any (is_taken_by p) entries ≡ true → list_any (is_taken_by p) others ≡ true)
+    → IsNamed first entries → IsNamed first others
+named_if None entries others still h = tt
+named_if (Some p) entries others still h = still p h
+
+-- at a step of a loop: it took one before, or takes this one
+pub named_more : (first : Option ℕ) (entries : List Entry) (i : ℕ) → IsNamed first (take i entries)
+    → IsNamed first (take (i + 1) entries)
+named_more first entries i =
+    named_if first (take i entries) (take (i + 1) entries) (λ p is. list_any_kept (is_taken_by p) entries i is)
+
+pub named_here : (entries : List Entry) (i : ℕ) (e : Entry) → i < length entries → e ≡ get_or entries i e
+    → IsNamed e.taken_by (take (i + 1) entries)
+named_here entries i e within is = pick e.taken_by refl
+  where
+    pick : (o : Option ℕ) → e.taken_by ≡ o → IsNamed o (take (i + 1) entries)
+    pick None by = tt
+    pick (Some p) by =
+        list_any_more (is_taken_by p) entries i e within
+        ∙ or_right (list_any (is_taken_by p) (take i entries)) _
+        (ap (is_taken_by p) (sym is) ∙ ap (λ o. option_map_or (eqb p) o false) by ∙ eq-eqb p p refl)
+
+named-append : (entries events : List Entry) (first : Option ℕ) → IsNamed first entries
+    → IsNamed first (entries ++ events)
+named-append entries events first =
+    named_if first entries (entries ++ events)
+    (λ p is. list_any-append (is_taken_by p) entries events ∙ or_left (list_any (is_taken_by p) entries) _ is)
+
+-- where each entry that it took stays so
+named-map : (g : Entry → Entry) (entries : List Entry) (first : Option ℕ)
+    → ((p : ℕ) (e : Entry) → is_taken_by p e ≡ true → is_taken_by p (g e) ≡ true)
+    → IsNamed first entries → IsNamed first (map g entries)
+named-map g entries first keeps =
+    named_if first entries (map g entries) (λ p is. any-changed (is_taken_by p) (is_taken_by p) g entries (keeps p) is)
+
 -- The marks
 
 pub marks-append : (entries events : List Entry) (first : Option ℕ) (next later : ℕ) → AreMarked entries first next
@@ -271,6 +322,7 @@ marks-append entries events first next later h up fresh apart = record {
   first = list_all-append (is_not_before first) entries events
       ∙ and_both _ _ h.first (each (is_not_before first) events (λ e none. kept_not_before first e (fresh_kept e none))
       fresh);
+  named = named-append entries events first h.named;
 }
   where
     each : (p : Entry → Bool) (some : List Entry) → ((e : Entry) → e.taken_by ≡ None → p e ≡ true)
@@ -286,18 +338,20 @@ marks-later entries first next later h up = record {
   taken = all_weaker (is_rightly_taken next) (is_rightly_taken later) entries (λ e is. taken_later next later e up is)
       h.taken;
   first = h.first;
+  named = h.named;
 }
 
 -- where the marks themselves stay
-pub marks-map : (g : Entry → Entry) (entries : List Entry) (first : Option ℕ) (next : ℕ) → KeepsKeys g
+pub marks-map : (g : Entry → Entry) (entries : List Entry) (first : Option ℕ) (was next : ℕ) → KeepsKeys g
     → ((e : Entry) → (g e).taken_by ≡ e.taken_by)
-    → list_all (is_rightly_taken next) (map g entries) ≡ true
-    → AreApart entries → AreFirst first entries → AreMarked (map g entries) first next
-marks-map g entries first next keeps same right apart firsts = record {
-  apart = apart-map g entries keeps (keeps_taken_if g same) apart;
+    → list_all (is_rightly_taken next) (map g entries) ≡ true → AreMarked entries first was
+    → AreMarked (map g entries) first next
+marks-map g entries first was next keeps same right h = record {
+  apart = apart-map g entries keeps (keeps_taken_if g same) h.apart;
   taken = right;
   first = list_all-map (is_not_before first) g entries
-      ∙ all_weaker (is_not_before first) (λ e. is_not_before first (g e)) entries (λ e is. still first e is) firsts;
+      ∙ all_weaker (is_not_before first) (λ e. is_not_before first (g e)) entries (λ e is. still first e is) h.first;
+  named = named-map g entries first (λ p e is. ap (λ o. option_map_or (eqb p) o false) (same e) ∙ is) h.named;
 }
   where
     still : (f : Option ℕ) (e : Entry) → is_not_before f e ≡ true → is_not_before f (g e) ≡ true
@@ -331,6 +385,23 @@ marked_left : (seq moment s : ℕ) (e : Entry) → s ≤ seq → is_left s e ≡
 marked_left seq moment s e h is =
     marked_way (λ x. is_left s x ≡ true) seq moment e (λ kept done. le-leb s seq h) (λ other. is)
 
+-- what a Purge takes, and what another took before
+abbrev pub is_done : (moment : ℕ) → Entry → Bool
+is_done moment e = is_kept e && is_done_before moment e.latest
+
+taken_here : (seq moment : ℕ) (e : Entry) → is_done moment e ≡ true → is_taken_by seq (marked seq moment e) ≡ true
+taken_here seq moment e done =
+    ap (λ b. is_taken_by seq (cond b (record e { taken_by = Some seq }) e)) done ∙ eq-eqb seq seq refl
+
+marked_by : (seq moment p : ℕ) (e : Entry) → is_taken_by p e ≡ true → is_taken_by p (marked seq moment e) ≡ true
+marked_by seq moment p e by =
+    marked_way (λ x. is_taken_by p x ≡ true) seq moment e
+    (λ kept done. absurd (pick e.taken_by by kept)) (λ other. by)
+  where
+    pick : (o : Option ℕ) → option_map_or (eqb p) o false ≡ true → not (is_some o) ≡ true → ⊥
+    pick None is none = true≢false (sym is)
+    pick (Some n) is none = true≢false (sym none)
+
 marked_right : (seq moment next : ℕ) (e : Entry) → next ≤ seq → e.seq < next → is_rightly_taken next e ≡ true
     → is_rightly_taken (seq + 1) (marked seq moment e) ≡ true
 marked_right seq moment next e h l is =
@@ -340,18 +411,32 @@ marked_right seq moment next e h l is =
     (and_first (not (is_in_state Pending (state_in e.latest))) _ done)))
     (λ other. taken_later next (seq + 1) e (omega (arith, h)) is)
 
+-- the earlier of two Purges
+pub record IsEarlier (one other result : Option ℕ) : Type 0 where
+  pub first : (e : Entry) → is_not_before one e ≡ true → is_not_before result e ≡ true
+  pub second : (e : Entry) → is_not_before other e ≡ true → is_not_before result e ≡ true
+  pub one_of : (result ≡ one) ⊎ (result ≡ other)
+
+-- the Purge of this number, if it takes one of the entries
+abbrev pub if_taking : (seq moment : ℕ) → List Entry → Option ℕ
+if_taking seq moment entries = then_some (list_any (is_done moment) entries) seq
+
 pub marks-purge : (entries : List Entry) (first later : Option ℕ) (seq moment next : ℕ) → AreMarked entries first next
     → next ≤ seq → list_all (λ e. ltb e.seq next) entries ≡ true
-    → ((e : Entry) → is_not_before first e ≡ true → is_not_before later e ≡ true)
-    → ((e : Entry) → is_not_before (Some seq) e ≡ true → is_not_before later e ≡ true)
+    → IsEarlier first (if_taking seq moment entries) later
     → AreMarked (map (marked seq moment) entries) later (seq + 1)
-marks-purge entries first later seq moment next h up numbered was taken = record {
+marks-purge entries first later seq moment next h up numbered is = record {
   apart = apart-map g entries (marked_keeps seq moment) (marked_taken seq moment) h.apart;
   taken = list_all-map (is_rightly_taken (seq + 1)) g entries
       ∙ both (λ e. ltb e.seq next) (is_rightly_taken next) (λ e. is_rightly_taken (seq + 1) (g e)) entries
       (λ e l is. marked_right seq moment next e up (ltb-true e.seq next l) is) numbered h.taken;
   first = list_all-map (is_not_before later) g entries
-      ∙ all_weaker (is_not_before first) (λ e. is_not_before later (g e)) entries each h.first;
+      ∙ each entries (λ any e late. is.second e (ap (λ b. is_not_before (then_some b seq) e) any ∙ late)) h.first;
+  named = ⊎_elim
+      (λ same. subst (λ o. IsNamed o (map g entries)) (sym same)
+      (named-map g entries first (λ p e by. marked_by seq moment p e by) h.named))
+      (λ new. subst (λ o. IsNamed o (map g entries)) (sym new) (taking (list_any (is_done moment) entries) refl))
+      is.one_of;
 }
   where
     g : Entry → Entry
@@ -364,10 +449,23 @@ marks-purge entries first later seq moment next h up numbered was taken = record
         and_both (r e) (list_all r es) (step e (and_first (p e) _ one) (and_first (q e) _ other))
         (both p q r es step (and_second (p e) _ one) (and_second (q e) _ other))
 
-    each : (e : Entry) → is_not_before first e ≡ true → is_not_before later (g e) ≡ true
-    each e is =
-        marked_way (λ x. is_not_before later x ≡ true) seq moment e
-        (λ kept done. taken (record e { taken_by = Some seq }) (le-leb seq seq (omega arith))) (λ other. was e is)
+    taking : (b : Bool) → list_any (is_done moment) entries ≡ b → IsNamed (then_some b seq) (map g entries)
+    taking true any =
+        any-changed (is_done moment) (is_taken_by seq) g entries (λ e done. taken_here seq moment e done) any
+    taking false any = tt
+
+    each : (some : List Entry)
+        → (list_any (is_done moment) some ≡ true
+        → (e : Entry) → is_not_before (Some seq) e ≡ true → is_not_before later e ≡ true)
+        → list_all (is_not_before first) some ≡ true → list_all (λ e. is_not_before later (g e)) some ≡ true
+    each [] took all = refl
+    each (e ∷ es) took all =
+        and_both _ _
+        (marked_way (λ x. is_not_before later x ≡ true) seq moment e
+        (λ kept done. took (or_left (is_done moment e) _ (and_both _ _ kept done)) (record e { taken_by = Some seq })
+        (le-leb seq seq (omega arith)))
+        (λ other. is.first e (and_first (is_not_before first e) _ all)))
+        (each es (λ any. took (or_right (is_done moment e) _ any)) (and_second (is_not_before first e) _ all))
 
 pub later-purge : (entries : List Entry) (seq moment : ℕ) (o : Unsettled) → o.seq ≤ seq
     → is_later entries o ≡ true → is_later (map (marked seq moment) entries) o ≡ true
@@ -378,6 +476,13 @@ later-purge entries seq moment o h is =
 -- a list of which the first so many are changed, and the others are as they were
 abbrev pub half : {X : Type 0} (f : X → X) (count : ℕ) (xs : List X) → List X
 half f count xs = map f (take count xs) ++ drop count xs
+
+-- the first of the others is as it was
+pub half_here : {X : Type 0} (f : X → X) (xs : List X) (i : ℕ) (d : X) → i < length xs
+    → get_or (half f i xs) i d ≡ get_or xs i d
+half_here f [] i d within = absurd (omega (arith, within))
+half_here f (x ∷ xs) zero d within = refl
+half_here f (x ∷ xs) (suc i) d within = half_here f xs i d (omega (arith, within))
 
 half_then : {X : Type 0} (f : X → X) (xs : List X) (i : ℕ) (d : X) → i < length xs
     → set (half f i xs) i (f (get_or (half f i xs) i d)) ≡ half f (suc i) xs

@@ -23,12 +23,12 @@ use Rattle.delivery_book.specs.Entries.{BookValue, IsCaughtUp, with_attempt, wit
 use Rattle.delivery_book.specs.Entries.{at_delivery, is_done_before, is_kept, is_left, marked, is_open, entry_at}
 use Rattle.delivery_book.specs.Entries.{state_in, may_restore}
 use Rattle.delivery_book.specs.Fields.{AreMarked, HasLessKeys, IsAscending, IsBook, IsKeyed, IsQueue, IsTally}
-use Rattle.delivery_book.specs.Fields.{is_not_before, is_numbered, is_rightly_taken, is_waiting, is_later, in_state}
+use Rattle.delivery_book.specs.Fields.{is_numbered, is_rightly_taken, is_waiting, is_later, in_state}
 use Rattle.delivery_book.specs.Fields.{counts_for, has_room, is_counted, is_in_turn, may_wait, one_of}
 use Rattle.delivery_book.proofs.Entries.{count-slice, entry_at-found, get_or-any}
 use Rattle.delivery_book.proofs.Marks.{entry_at-mapped, kept_left, kept_right, later-map, later-purge, marked_keeps}
-use Rattle.delivery_book.proofs.Marks.{marked_way, marks-later, marks-map, marks-purge, order_later, order_push}
-use Rattle.delivery_book.proofs.Marks.{order_rest, pending_kept, taken_later}
+use Rattle.delivery_book.proofs.Marks.{IsEarlier, if_taking, marked_way, marks-later, marks-map, marks-purge}
+use Rattle.delivery_book.proofs.Marks.{order_later, order_push, order_rest, pending_kept, taken_later}
 use Rattle.delivery_book.proofs.IndexLemmas.{indexed-purge}
 use Rattle.delivery_book.proofs.Updates.{KeepsKeys, each_map, all_at, all_set, all_weaker, count-map, either_way}
 use Rattle.delivery_book.proofs.Updates.{set_is, indexed-map, keeps_where, keyed-map, all_numbered, tally-set}
@@ -143,7 +143,7 @@ book-outcome index tally less more settled_tally entries unsettled room next set
       };
       order = order_push unsettled next (record { seq = seq; delivery = delivery }) l h.order;
       marks = subst (λ es. AreMarked es purge (seq + 1)) (sym changed)
-          (marks-map g entries purge (seq + 1) keeps stays right h.marks.apart h.marks.first);
+          (marks-map g entries purge next (seq + 1) keeps stays right h.marks);
     }
   where
     g : Entry → Entry
@@ -240,7 +240,7 @@ book-restored index tally less more settled_tally entries unsettled room next se
       };
       order = h.order;
       marks = subst (λ es. AreMarked es purge next) (sym changed)
-          (marks-map g entries purge next keeps marks right h.marks.apart h.marks.first);
+          (marks-map g entries purge next next keeps marks right h.marks);
     }
   where
     y : Entry
@@ -396,7 +396,7 @@ book-settle index tally settled_tally less more entries o rest room next settled
       };
       order = order_rest o rest next h.order;
       marks = subst (λ es. AreMarked es purge next) (sym changed)
-          (marks-map g entries purge next keeps marks right h.marks.apart h.marks.first);
+          (marks-map g entries purge next next keeps marks right h.marks);
     }
   where
     g : Entry → Entry
@@ -443,11 +443,10 @@ pub book-purge : (index later : EventIndex) (tally settled_tally : Tally) (entri
     (unsettled : List Unsettled) (room next settled n : ℕ) (purge after : Option ℕ) (seq moment : ℕ)
     → IsBook entries index tally settled_tally unsettled room next settled n purge → next ≤ seq
     → HasLessKeys index (filter (λ e. is_kept e && is_done_before moment e.latest) entries) later
-    → ((e : Entry) → is_not_before purge e ≡ true → is_not_before after e ≡ true)
-    → ((e : Entry) → is_not_before (Some seq) e ≡ true → is_not_before after e ≡ true)
+    → IsEarlier purge (if_taking seq moment entries) after
     → IsBook (map (marked seq moment) entries) later tally settled_tally unsettled room (seq + 1) settled n after
-book-purge index later tally settled_tally entries unsettled room next settled n purge after seq moment h up less was
-    taken = record {
+book-purge index later tally settled_tally entries unsettled room next settled n purge after seq moment h up less is =
+    record {
       keyed = keyed-map g entries index later next (seq + 1) settled n keeps (omega (arith, h.keyed.settled_next, up))
           (all_numbered g entries next (seq + 1) numbered h.keyed.numbered)
           (indexed-purge index later entries seq moment h.keyed.indexed h.marks.apart less) h.keyed;
@@ -481,7 +480,7 @@ book-purge index later tally settled_tally entries unsettled room next settled n
       marks = marks-purge entries purge after seq moment next h.marks up
           (all_weaker (is_numbered next) (λ e. ltb e.seq next) entries (λ e is. and_first (ltb e.seq next) _ is)
           h.keyed.numbered)
-          was taken;
+          is;
     }
   where
     g : Entry → Entry

@@ -21,8 +21,8 @@ use Rattle.delivery_book.specs.declared.entry.Unsettled.{Unsettled}
 use Rattle.delivery_book.specs.declared.index.EventIndex.{EventIndex}
 use Rattle.delivery_book.specs.declared.tally.Tally.{Tally}
 use Rattle.delivery_book.specs.Entries.{IsCaughtUp, entry_at, is_entry_as, is_kept, is_left, rest_from, state_in}
-use Rattle.delivery_book.specs.Fields.{AreFirst, AreInOrder, FirstBelow, HasCounted, HasMore, IsBook, KeepsRoom}
-use Rattle.delivery_book.specs.Fields.{RestFrom}
+use Rattle.delivery_book.specs.Fields.{AreFirst, AreInOrder, FirstBelow, HasCounted, HasMore, IsBook, IsNamed}
+use Rattle.delivery_book.specs.Fields.{KeepsRoom, RestFrom}
 use Rattle.delivery_book.specs.Fields.{counts_for, has_room, in_state, is_among, is_counted, is_known_as, is_later}
 use Rattle.delivery_book.specs.Fields.{is_in_turn, is_numbered, is_rightly_taken, is_taken_below, is_waiting}
 use Rattle.delivery_book.specs.Fields.{may_wait, one_of, settled_among}
@@ -337,9 +337,9 @@ module _ (entries : List Entry) (index : EventIndex) (tally settled_tally : Tall
   pub book-swept : (counted settled_counted : Tally) (more_room m : ℕ) (later : Option ℕ)
       → HasMore counted (settled_among gone) tally → HasMore settled_counted (settled_among gone) settled_tally
       → KeepsRoom settled_tally settled_counted → room ≤ more_room → m ≤ length left
-      → FirstBelow m settled left → RestFrom m settled left → AreFirst later left
+      → FirstBelow m settled left → RestFrom m settled left → AreFirst later left → IsNamed later left
       → IsBook left index counted settled_counted unsettled more_room next settled m later
-  book-swept counted settled_counted more_room m later fewer settled_fewer stays enough within under over firsts =
+  book-swept counted settled_counted more_room m later fewer settled_fewer stays enough within under over firsts named =
       record {
         keyed = record {
           ascending = AllPairs-filter (λ (a b : Entry). a.seq < b.seq) (is_left settled) entries h.keyed.ascending;
@@ -397,6 +397,7 @@ module _ (entries : List Entry) (index : EventIndex) (tally settled_tally : Tall
               (is_left settled) entries h.marks.apart;
           taken = all-filter (is_rightly_taken next) (is_left settled) entries h.marks.taken;
           first = firsts;
+          named = named;
         };
       }
     where

@@ -1,8 +1,8 @@
 -- What ties the index, the counts and the room of a book to its entries.
-use Rattle.std.specs.Prelude.{◌≡◌, ℕ, ◌+◌, ◌^◌, ◌<◌, ◌≤◌, ◌&&◌, ◌||◌, ◌==◌, not, Bool, true, false, nat_lt, nat_eq, List}
-use Rattle.std.specs.Prelude.{◌∷◌, ◌++◌}
+use Rattle.std.specs.Prelude.{◌≡◌, ℕ, ◌+◌, ◌^◌, ◌<◌, ◌≤◌, ◌&&◌, ◌||◌, ◌==◌, not, Bool, true, false, nat_lt, nat_eq}
+use Rattle.std.specs.Prelude.{List, ◌∷◌, ◌++◌}
 use Rattle.std.specs.Prelude.{length, take, Option, Some, None, option_map, unwrap_or, is_some, slice_index_or}
-use Rattle.std.specs.Prelude.{filter, find, count_by, bytes_eq, All, AllPairs, IsTrue, if◌then◌else◌}
+use Rattle.std.specs.Prelude.{filter, find, count_by, bytes_eq, All, AllPairs, IfSome, IsTrue, if◌then◌else◌}
 use Rattle.std.specs.List.{AllByRecursion, list_all, list_any}
 use Rattle.std.specs.Option.{option_or, option_map_or}
 use Rattle.std.specs.BTreeMap.{get_by}
@@ -219,6 +219,14 @@ is_not_before next_purge entry = option_map_or (λ purge. is_left purge entry) n
 abbrev pub AreFirst : (next_purge : Option Seq) → List Entry → Type 0
 AreFirst next_purge entries = IsTrue (list_all (is_not_before next_purge) entries)
 
+-- the Purge of this number took the entry
+abbrev pub is_taken_by : (purge : Seq) → Entry → Bool
+is_taken_by purge entry = option_map_or (nat_eq purge) entry.taken_by false
+
+-- if there is such a Purge, it took one of these entries
+abbrev pub IsNamed : (next_purge : Option Seq) → List Entry → Type 0
+IsNamed next_purge entries = IfSome next_purge (λ purge. IsTrue (list_any (is_taken_by purge) entries))
+
 -- a Purge that took the entry has a number between the entry's and this one, and the delivery has ended
 abbrev pub is_rightly_taken : (next : Seq) → Entry → Bool
 is_rightly_taken next entry =
@@ -226,11 +234,12 @@ is_rightly_taken next entry =
     && (nat_lt purge next && not (is_in_state Pending (state_in entry.latest))))
     entry.taken_by true
 
--- what holds of the entries that Purges took, none of them before this one
+-- what holds of the entries that Purges took, this one the first of them
 pub record AreMarked (entries : List Entry) (next_purge : Option Seq) (next_seq : Seq) : Type 0 where
   pub apart : AreApart entries
   pub taken : IsTrue (list_all (is_rightly_taken next_seq) entries)
   pub first : AreFirst next_purge entries
+  pub named : IsNamed next_purge entries
 
 -- The book
 

@@ -47,7 +47,7 @@ pub struct DeliveryBook {
     next_seq: u64,
     settled_seq: u64,
     settled_entries: usize,
-    /// No Purge that waits and took a delivery has a lower number.
+    /// The least number of a Purge that waits and took a delivery.
     next_purge: Option<u64>,
 }
 
@@ -190,8 +190,8 @@ impl DeliveryBook {
         ensures stands { Takes self.old seq (Purge before) self.new }
     {
         remove_done(&mut self.index, &self.entries, before);
-        mark_done(&mut self.entries, seq, before);
-        self.next_purge = earlier(self.next_purge, Some(seq));
+        let took = mark_done(&mut self.entries, seq, before);
+        self.next_purge = earlier(self.next_purge, took.then_some(seq));
         self.next_seq = seq + 1;
     }
 
@@ -348,8 +348,8 @@ impl DeliveryBook {
         self.index.get(name, id)
     }
 
-    /// The delivery of the event that the endpoint knows by this id, as the settled records have it. While a Purge
-    /// waits, it may have to look through all entries for one that the Purge took.
+    /// The delivery of the event that the endpoint knows by this id, as the settled records have it. While a Purge that
+    /// took a delivery waits, it may have to look through all entries for one that the Purge took.
     pub fn find_settled(&self, name: Name, id: &MsgId) -> Option<u64>
         ensures known { result ≡ known_settled_in self.now name id.now }
         ensures stands { OverHistories self.now

@@ -73,14 +73,18 @@ impl Entry {
         self.is_kept() && self.latest.is_done_before(moment)
     }
 
-    /// The Purge of this number takes the delivery, if it is kept and has ended by an attempt before this moment.
-    pub(crate) fn mark(&mut self, seq: u64, moment: Moment)
+    /// The Purge of this number takes the delivery, if it is kept and has ended by an attempt before this moment;
+    /// whether it does.
+    pub(crate) fn mark(&mut self, seq: u64, moment: Moment) -> bool
         requires { seq + 1 < 2 ^ 64 }
-        ensures { self.new ≡ marked seq moment self.old }
+        ensures marked { self.new ≡ marked seq moment self.old }
+        ensures took { result ≡ is_kept self.old && is_done_before moment self.old.latest }
     {
-        if self.is_done_before(moment) {
+        let takes = self.is_done_before(moment);
+        if takes {
             self.taken_by = Mark::of(seq);
         }
+        takes
     }
 
     /// The delivery as all records have it, if no Purge took it.

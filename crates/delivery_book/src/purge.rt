@@ -1,26 +1,32 @@
 //! What a Purge takes, and gives up.
-ghost use Rattle.std.specs.Prelude.{◌≡◌, ◌+◌, ◌<◌, ◌^◌, true, false, nat_lt, map, filter};
+ghost use Rattle.std.specs.Prelude.{◌≡◌, ◌+◌, ◌<◌, ◌^◌, ◌&&◌, ◌⊎◌, true, false, nat_lt, map, filter};
+ghost use Rattle.std.specs.List.{list_any};
 ghost use Rattle.std.specs.Option.{option_map_or};
 ghost use Rattle.delivery_book.specs.declared.entry.Entry.{Entry};
-ghost use Rattle.delivery_book.specs.Entries.{is_left, marked};
-ghost use Rattle.delivery_book.specs.Fields.{AreFirst, is_not_before};
+ghost use Rattle.delivery_book.specs.Entries.{is_done_before, is_kept, is_left, marked};
+ghost use Rattle.delivery_book.specs.Fields.{AreFirst, IsNamed, is_not_before};
 
 use crate::entry::Entry;
 use relay_types::Moment;
 
-/// Has the Purge of this number take each delivery that has ended by an attempt before this moment.
-pub(crate) fn mark_done(entries: &mut [Entry], seq: u64, moment: Moment)
+/// Has the Purge of this number take each delivery that has ended by an attempt before this moment; whether it took
+/// one.
+pub(crate) fn mark_done(entries: &mut [Entry], seq: u64, moment: Moment) -> bool
     requires { seq + 1 < 2 ^ 64 }
-    ensures { entries.new ≡ map (marked seq moment) entries.old }
+    ensures marked { entries.new ≡ map (marked seq moment) entries.old }
+    ensures took { result ≡ list_any (λ e. is_kept e && is_done_before moment e.latest) entries.old }
 {
+    let mut took = false;
     for entry in entries.iter_mut() {
-        entry.mark(seq, moment);
+        took |= entry.mark(seq, moment);
     }
+    took
 }
 
 /// The least number of a Purge that took one of the entries.
 pub(crate) fn first_purge(entries: &[Entry]) -> Option<u64>
-    ensures { AreFirst result entries.now }
+    ensures first { AreFirst result entries.now }
+    ensures named { IsNamed result entries.now }
 {
     let mut first = None;
     for entry in entries {
@@ -33,6 +39,7 @@ pub(crate) fn first_purge(entries: &[Entry]) -> Option<u64>
 pub(crate) fn earlier(one: Option<u64>, other: Option<u64>) -> Option<u64>
     ensures first { (entry : Entry) → is_not_before one entry ≡ true → is_not_before result entry ≡ true }
     ensures second { (entry : Entry) → is_not_before other entry ≡ true → is_not_before result entry ≡ true }
+    ensures one_of { (result ≡ one) ⊎ (result ≡ other) }
 {
     match (one, other) {
         (Some(a), Some(b)) => Some(a.min(b)),

@@ -3,8 +3,8 @@ use Rattle.std.specs.Prelude.{filter}
 use Rattle.std.proofs.lemmas.List.Kept.{AllPairs-filter}
 use Rattle.delivery_book.specs.declared.entry.Entry.{Entry}
 use Rattle.delivery_book.specs.Entries.{BookValue, is_left, rest_from}
-use Rattle.delivery_book.specs.Fields.{AreFirst, FirstBelow, IsAscending, HasCounted, HasMore, IsBook, RestFrom}
-use Rattle.delivery_book.specs.Fields.{is_taken_below, settled_among}
+use Rattle.delivery_book.specs.Fields.{AreFirst, FirstBelow, IsAscending, HasCounted, HasMore, IsBook, IsNamed}
+use Rattle.delivery_book.specs.Fields.{RestFrom, is_taken_below, settled_among}
 use Rattle.delivery_book.proofs.Sweeps.{none_below, taken_counted, taken_settled, book-swept}
 use Rattle.delivery_book.proofs.book.DeliveryBook.give_up_taken.Goals as goal
 
@@ -49,6 +49,7 @@ invariant_of-self c =
     in
     let left = filter (is_left b.settled_seq) b.entries.items in
     let third : c.deref-3.result.now ≡ left = c.deref-3.ensures.value ∙ c.keep_left.ensures in
+    let fourth : c.deref-4.result.now ≡ left = c.deref-4.ensures.value ∙ c.keep_left.ensures in
     let found = c.count_below-self-inside.ensures in
     subst
     (λ es. IsBook es b.index c.count_out.new.tally c.count_out-2.new.tally b.unsettled.items
@@ -70,7 +71,8 @@ invariant_of-self c =
     (subst (λ es. m ≤ length es) third found.within)
     (subst (FirstBelow m b.settled_seq) third (λ k d l. found.below k d l))
     (subst (RestFrom m b.settled_seq) third (λ k d l o. found.above k d l o))
-    (subst (AreFirst first) (c.deref-4.ensures.value ∙ c.keep_left.ensures) c.first_purge-self-inside.ensures))
+    (subst (AreFirst first) fourth c.first_purge-self-inside.ensures.first)
+    (subst (IsNamed first) fourth c.first_purge-self-inside.ensures.named))
 
 pub returns : goal.returns
 returns c = λ j. record {

@@ -33,5 +33,5 @@ invariant_of-result c =
       opened = refl;
       queue = record { later = refl; counted = omega arith; caught_up = tt; in_turn = refl; room = omega arith };
       order = record { rising = λ i j d lt m. absurd (omega (arith, m)); below = refl };
-      marks = record { apart = λ i j d lt m. absurd (omega (arith, m)); taken = refl; first = refl };
+      marks = record { apart = λ i j d lt m. absurd (omega (arith, m)); taken = refl; first = refl; named = tt };
     }))
