@@ -1,5 +1,6 @@
 //! What a Purge takes, and gives up.
-ghost use Rattle.std.specs.Prelude.{◌≡◌, ◌+◌, ◌<◌, ◌^◌, ◌&&◌, ◌⊎◌, true, false, nat_lt, map, filter};
+ghost use Rattle.std.specs.Prelude.{◌≡◌, ◌+◌, ◌*◌, ◌<◌, ◌≤◌, ◌^◌, ◌&&◌, ◌⊎◌, true, false, nat_lt, min, [], length, map};
+ghost use Rattle.std.specs.Prelude.{filter, vec_capacity};
 ghost use Rattle.std.specs.List.{list_any};
 ghost use Rattle.std.specs.Option.{option_map_or};
 ghost use Rattle.delivery_book.specs.declared.entry.Entry.{Entry};
@@ -58,9 +59,13 @@ pub(crate) fn is_below(number: Option<u64>, seq: u64) -> bool
     }
 }
 
-/// Gives up the entries that Purges below this number took. It keeps room for twice what is left.
+/// Gives up the entries that Purges below this number took. It keeps room for twice what is left, and none if nothing
+/// is; more only if a smaller block can't be had.
 pub(crate) fn keep_left(entries: &mut Vec<Entry>, seq: u64)
-    ensures { entries.new.items ≡ filter (is_left seq) entries.old.items }
+    ensures left { entries.new.items ≡ filter (is_left seq) entries.old.items }
+    ensures room { min (2 * length entries.new.items) (vec_capacity entries.old) ≤ vec_capacity entries.new }
+    ensures no_more { vec_capacity entries.new ≤ vec_capacity entries.old }
+    ensures none { entries.new.items ≡ [] → vec_capacity entries.new ≡ 0 }
 {
     entries.retain(|entry| entry.is_left(seq));
     entries.shrink_to(entries.len().saturating_mul(2));

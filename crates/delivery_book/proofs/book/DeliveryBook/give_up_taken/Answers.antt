@@ -35,7 +35,7 @@ count_out-requires-2 c =
 pub count_below-self-inside-requires : goal.count_below-self-inside-requires
 count_below-self-inside-requires c =
     let b = c.self.inside in
-    subst IsAscending (sym (c.deref-3.ensures.value ∙ c.keep_left.ensures))
+    subst IsAscending (sym (c.deref-3.ensures.value ∙ c.keep_left.ensures.left))
     (AllPairs-filter (λ (x y : Entry). x.seq < y.seq) (is_left b.settled_seq) b.entries.items
     c.self.invariant.keyed.ascending)
 
@@ -48,14 +48,14 @@ invariant_of-self c =
     subst (λ (v : BookValue). rest_from v.settled_seq v.unsettled ≡ v.unsettled) (sym c.self.view_is) c.requires.settled
     in
     let left = filter (is_left b.settled_seq) b.entries.items in
-    let third : c.deref-3.result.now ≡ left = c.deref-3.ensures.value ∙ c.keep_left.ensures in
-    let fourth : c.deref-4.result.now ≡ left = c.deref-4.ensures.value ∙ c.keep_left.ensures in
+    let third : c.deref-3.result.now ≡ left = c.deref-3.ensures.value ∙ c.keep_left.ensures.left in
+    let fourth : c.deref-4.result.now ≡ left = c.deref-4.ensures.value ∙ c.keep_left.ensures.left in
     let found = c.count_below-self-inside.ensures in
     subst
     (λ es. IsBook es b.index c.count_out.new.tally c.count_out-2.new.tally b.unsettled.items
     (deque_capacity b.unsettled)
     b.next_seq b.settled_seq m first)
-    (sym c.keep_left.ensures)
+    (sym c.keep_left.ensures.left)
     (book-swept b.entries.items b.index b.tally b.settled_tally b.unsettled.items (deque_capacity b.unsettled)
     b.next_seq
     b.settled_seq b.settled_entries b.next_purge c.self.invariant
@@ -76,7 +76,7 @@ invariant_of-self c =
 
 pub returns : goal.returns
 returns c = λ j. record {
-  entries = (c.keep_left.ensures ∙ ap (λ v. filter (is_left v.settled_seq) v.entries) c.self.view_is) j;
+  entries = (c.keep_left.ensures.left ∙ ap (λ v. filter (is_left v.settled_seq) v.entries) c.self.view_is) j;
   unsettled = ap (λ v. v.unsettled) c.self.view_is j;
   next_seq = ap (λ v. v.next_seq) c.self.view_is j;
   settled_seq = ap (λ v. v.settled_seq) c.self.view_is j;
