@@ -1,7 +1,8 @@
 //! The book itself.
-ghost use Rattle.std.specs.Prelude.{◌≡◌, ◌≢◌, ◌≤◌, ◌<◌, ◌+◌, ℕ, [], length, take, true, None, Some, is_some};
-ghost use Rattle.std.specs.Prelude.{unwrap_or, slice_get, count_by};
+ghost use Rattle.std.specs.Prelude.{◌≡◌, ◌≢◌, ◌≤◌, ◌<◌, ◌+◌, ◌*◌, ℕ, [], length, take, true, None, Some, is_some};
+ghost use Rattle.std.specs.Prelude.{unwrap_or, slice_get, count_by, min, nat_lt};
 ghost use Rattle.std.specs.Prelude.{option_copied, option_map, All, AllPairs, IfSome, OnOk, OnErr};
+ghost use Rattle.std.specs.VecDeque.{deque_capacity};
 ghost use Rattle.relay_types.specs.declared.limits.TheConstants.{MAX_RECORDS};
 ghost use Rattle.relay_types.specs.declared.record.Record.TheVariants.{Accept, Outcome, Purge};
 ghost use Rattle.relay_types.specs.Deliveries.{known_as};
@@ -31,6 +32,25 @@ use std::marker::Model;
 
 /// Room for so many outcomes that wait is never given back.
 const FEW_PLACES: usize = 256;
+
+/// Whether room for so many outcomes is more than four times what is needed.
+fn is_much(capacity: usize, places: usize) -> bool
+    ensures { result ≡ nat_lt (4 * places) capacity }
+{
+    capacity > places.saturating_mul(4)
+}
+
+/// Gives room for outcomes back, if there is more than four times what is needed. It keeps twice that; more only if a
+/// smaller block can't be had.
+fn give_back(queue: &mut VecDeque<Unsettled>, places: usize)
+    ensures items { queue.new.items ≡ queue.old.items }
+    ensures room { min (2 * places) (deque_capacity queue.old) ≤ deque_capacity queue.new }
+    ensures kept { deque_capacity queue.old ≤ 4 * places → deque_capacity queue.new ≡ deque_capacity queue.old }
+{
+    if is_much(queue.capacity(), places) {
+        queue.shrink_to(places.saturating_mul(2));
+    }
+}
 
 /// The deliveries of a history, and what came of each. An event that was taken in stays in memory with its body until a
 /// Purge that took it is settled. Its id is known until a Purge takes it. A delivery is named by the sequence number of
@@ -250,14 +270,12 @@ impl DeliveryBook {
         self.entries.len() - self.settled_entries + pending
     }
 
-    /// Gives room for outcomes back, of which there is more than four times what may come to wait.
+    /// Gives room for outcomes back, if there is more than four times what may come to wait.
     fn give_back_places(&mut self)
         ensures { self.new ≡ self.old }
     {
         let places = self.places().max(FEW_PLACES);
-        if self.unsettled.capacity() / 4 > places {
-            self.unsettled.shrink_to(places);
-        }
+        give_back(&mut self.unsettled, places);
     }
 
     /// Counts the events below this number as settled, as far as their settled outcomes have brought them.
