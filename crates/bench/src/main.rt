@@ -3,7 +3,6 @@
 #![tactic(auto)]
 
 mod books;
-mod crowds;
 mod delivering;
 mod events;
 mod failed;
@@ -12,7 +11,6 @@ mod limits;
 mod purging;
 mod queues;
 mod reopening;
-mod sharing;
 mod submitting;
 mod times;
 mod turns;
@@ -23,14 +21,11 @@ use crate::limits::print_limit;
 use crate::purging::print_purge;
 use crate::queues::print_calls;
 use crate::reopening::print_parts;
-use crate::sharing::{Sharing, print_sharing};
 use crate::submitting::{Plan, post_plan, print_submitting, submit_plan};
 use sqlite::{Alter, Connection};
 use std::io;
 use std::process::ExitCode;
-use std::sync::Wait;
-use std::thread::Threads;
-use std::time::{Clock, Instant};
+use std::time::Instant;
 use text_lines::read_number;
 
 const LIST: &str = "limit COUNT        the adaptive limit after as many samples
@@ -42,10 +37,6 @@ purge COUNT PATH   a purge of as many delivered events, among as many that ended
 insert COUNT PATH  the rows of as many events, by bare statements
 parts PATH         a store that stands, reopened part by part
 queue COUNT ENDPOINTS   the claim queue alone, with so many deliveries
-submitters THREADS COUNT        so many threads, which submit as many events in all and wait for each, over a store in memory
-submitters THREADS COUNT PATH   the same over a file
-workers THREADS COUNT           so many threads, which post as many pending events in all
-idle THREADS SECONDS            so many threads, which have nothing to post
 ";
 
 /// The most events of a run over a file.
@@ -85,17 +76,6 @@ fn run_of(name: &str, count: u32) -> Option<Run> {
         "insert" => Some(Run::Insert(count)),
         "purge" => Some(Run::Purge(count)),
         "submit" => Some(Run::Submit(submit_plan(count))),
-        _ => None,
-    }
-}
-
-/// The run of threads that the words name.
-fn sharing_of(name: &str, threads: &str, count: &str) -> Option<Sharing> {
-    let (threads, count) = counts_of(threads, count)?;
-    match name {
-        "submitters" => Some(Sharing::Submitters(threads, count)),
-        "workers" => Some(Sharing::Workers(threads, count)),
-        "idle" => Some(Sharing::Idle(threads, count)),
         _ => None,
     }
 }
@@ -148,27 +128,8 @@ fn run_queue(rt: &HostRuntime, count: &str, endpoints: &str) -> io::Result<bool>
     }
 }
 
-/// Runs threads over the store in memory, or in the file at the path.
-fn run_sharing<R: Threads + Wait + Clock + Sync>(
-    host: &HostRuntime,
-    rt: &R,
-    run: Sharing,
-    path: Option<&str>,
-) -> io::Result<bool> {
-    match path {
-        Some(path) => match Connection::open(host, path) {
-            Ok(conn) => print_sharing(host, rt, conn, run),
-            Err(_) => Ok(false),
-        },
-        None => match Connection::open_in_memory(host.alloc()) {
-            Ok(conn) => print_sharing(host, rt, conn, run),
-            Err(_) => Ok(false),
-        },
-    }
-}
-
-/// Runs what the words name on this thread. Whether they name a run that ended well.
-fn run_alone(rt: &HostRuntime, words: &[&str]) -> io::Result<bool> {
+/// Runs what the words name. Whether they name a run that ended well.
+fn run_words(rt: &HostRuntime, words: &[&str]) -> io::Result<bool> {
     match words {
         [_] => {
             print!(rt; "{LIST}")?;
@@ -185,27 +146,10 @@ fn run_alone(rt: &HostRuntime, words: &[&str]) -> io::Result<bool> {
     }
 }
 
-/// Runs what the words name. Whether they name a run that ended well.
-fn run_words<R: Threads + Wait + Clock + Sync>(
-    host: &HostRuntime,
-    rt: &R,
-    words: &[&str],
-) -> io::Result<bool> {
-    let (found, path) = match words {
-        [_, name, threads, count] => (sharing_of(name, threads, count), None),
-        [_, name, threads, count, path] => (sharing_of(name, threads, count), Some(*path)),
-        _ => (None, None),
-    };
-    match found {
-        Some(sharing) => run_sharing(host, rt, sharing, path),
-        None => run_alone(host, words),
-    }
-}
-
 fn main(rt: HostRuntime) -> io::Result<ExitCode> {
     let alloc = rt.alloc();
     let words: Vec<String> = std::env::args(&rt)?.collect(alloc)?;
     let shown: Vec<&str> = words.iter().map(|word| word.as_str()).collect(alloc)?;
-    let is_done = run_words(&rt, &rt, shown.as_slice())?;
+    let is_done = run_words(&rt, shown.as_slice())?;
     Ok(ExitCode::from(u8::from(!is_done)))
 }

@@ -25,7 +25,7 @@ pub(crate) fn created<S: Alter + Drop>(conn: Connection<S>) -> Result<Vault<S>, 
 }
 
 /// The receipt of the batch, if it was committed.
-pub(crate) fn written<S: Alter>(vault: &mut Vault<S>, batch: Batch) -> Option<Receipt> {
+fn written<S: Alter>(vault: &mut Vault<S>, batch: Batch) -> Option<Receipt> {
     match vault.commit(batch) {
         Ok(receipt) => Some(receipt),
         Err(CommitEnd::Unchanged(batch, _)) => {
@@ -64,7 +64,7 @@ pub(crate) fn turn<L: Ledger, S: Alter>(
 }
 
 /// Settles what was committed.
-pub(crate) fn settled<L: Ledger>(desk: &mut Desk<L>, receipt: Receipt) -> Result<(), Failed> {
+fn settled<L: Ledger>(desk: &mut Desk<L>, receipt: Receipt) -> Result<(), Failed> {
     match desk.settle(receipt) {
         Ok(_) => Ok(()),
         Err((receipt, _)) => {

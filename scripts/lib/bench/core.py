@@ -3,12 +3,11 @@
 Measures the programs bench, driver and relayd of crates/, and prints one table. The limit is
 compared with its rule in Python, and the store with the same statements through Python's sqlite3,
 which is SQLite in C. Times are of whole processes, or what a run tells of its parts, and memory is
-the most that one held. `--shared BENCH` measures threads that share a desk alone; `--file PATH
-COUNT` makes the file of as many deliveries that is reopened, and `--read PATH` reads its rows.
+the most that one held. `--file PATH COUNT` makes the file of as many deliveries that is reopened,
+and `--read PATH` reads its rows. `scripts/bench http` measures the relay with its threads.
 Usage: scripts/bench core BENCH DRIVER RELAYD
 """
 import contextlib
-import resource
 import sqlite3
 import subprocess
 import sys
@@ -20,7 +19,8 @@ from lib.command import ROOT, end_with_usage, programs_of
 from lib.formats import make_tables
 from lib.process import status_of
 from lib.rows import ORDERS
-from lib.serving import SECRET
+from lib.servers import processor_of
+from lib.serving import SECRET, relay_of
 
 SAMPLES = 100_000_000
 SAMPLES_IN_PYTHON = 1_000_000
@@ -34,10 +34,6 @@ PENDING = (1_000, 10_000, 50_000)
 POSTED_TO = (1, 50, 256)
 MOST_OF_ONE = 10_000
 BATCH = 256
-# how many threads, and how many events they have in all
-SUBMITTERS = ((1, 2_000), (8, 16_000), (64, 40_000), (256, 40_000))
-WORKERS = (1, 8, 64)
-ROUNDS = 10_000
 IDLE = 64
 IDLE_SECONDS = 10
 
@@ -227,33 +223,14 @@ def posted(bench, scratch):
         row(f"claims with {count:,} events pending over {endpoints} endpoints", BATCH, "claims", times["first claims"], 0, "")
 
 
-def told_of(words):
-    """What a run of threads tells, and how much processor time it took."""
-    before = resource.getrusage(resource.RUSAGE_CHILDREN)
-    told, _, memory = measured(words)
-    after = resource.getrusage(resource.RUSAGE_CHILDREN)
-    spent = after.ru_utime + after.ru_stime - before.ru_utime - before.ru_stime
-    return times_of(told), spent, memory, {part: int(count) for part, _, count in (line.rpartition(" ") for line in told.splitlines())}
-
-
-def shared(bench, scratch):
-    """Threads that share a desk: submitters over a file and over memory, workers, and workers that have nothing to post."""
-    for place, counts in (("a file", SUBMITTERS), ("memory", SUBMITTERS)):
-        for threads, events in counts:
-            path = [f"{scratch}/shared-{threads}"] if place == "a file" else []
-            times, _, memory, counts_told = told_of([bench, "submitters", str(threads), str(events), *path])
-            if counts_told["records"] != events + 100:
-                sys.exit(f"{threads} submitters over {place}: {counts_told}")
-            what = f"events acknowledged, {threads} submitters over {place}, {events / counts_told['commits']:.0f} in a commit"
-            row(what, events, "events", times["took"], memory, "")
-    for threads in WORKERS:
-        times, _, memory, counts_told = told_of([bench, "workers", str(threads), str(ROUNDS)])
-        if counts_told["records"] != ROUNDS * 2 + 100:
-            sys.exit(f"{threads} workers: {counts_told}")
-        what = f"rounds of {threads} workers over memory, answered at once, {ROUNDS / counts_told['commits']:.0f} outcomes in a commit"
-        row(what, ROUNDS, "rounds", times["took"], memory, "")
-    _, with_rest, memory, _ = told_of([bench, "idle", str(IDLE), str(IDLE_SECONDS)])
-    row(f"processor time of {IDLE} workers that have nothing to post", IDLE_SECONDS, "seconds", with_rest, memory, "")
+def idle(relayd, scratch):
+    """The processor time of a relay whose workers have nothing to post."""
+    with relay_of(relayd, f"{scratch}/idle", "--workers", IDLE) as relay:
+        time.sleep(1)
+        before = processor_of(relay.process)
+        time.sleep(IDLE_SECONDS)
+        used, memory = processor_of(relay.process) - before, status_of(relay.process.pid, "VmHWM") / 2**20
+    row(f"processor time of a relay with {IDLE} workers that have nothing to post", IDLE_SECONDS, "seconds", used, memory, "")
 
 
 def over_a_file(bench, scratch):
@@ -261,15 +238,11 @@ def over_a_file(bench, scratch):
     read_back(bench, scratch)
     submitted(bench, scratch)
     posted(bench, scratch)
-    shared(bench, scratch)
 
 
 def main():
     if not sys.argv[1:]:
         end_with_usage(__doc__)
-    if sys.argv[1] == "--shared":
-        with tempfile.TemporaryDirectory() as scratch:
-            return shared(sys.argv[2], scratch)
     if sys.argv[1] == "--limit":
         return limit_in_python(int(sys.argv[2]))
     if sys.argv[1] == "--file":
@@ -294,6 +267,7 @@ def main():
     row("outcomes into a book, settled 256 at a time", OUTCOMES, "outcomes", max(spent - staged, 0), memory, "")
     with tempfile.TemporaryDirectory() as scratch:
         over_a_file(bench, scratch)
+        idle(relayd, scratch)
         reopened(bench, scratch, python)
         for place, count, size in (("memory", 50_000, 2), ("memory", 50_000, 1000), ("a file", 2_000, 1000)):
             there = place == "memory"
