@@ -20,6 +20,10 @@ first_names : has_first_names first_schema ≡ true
 unfolding same_name
 first_names = refl
 
+relay_first_names : has_first_names relay_schema ≡ true
+unfolding same_name
+relay_first_names = refl
+
 relay_names : has_names relay_schema ≡ true
 unfolding same_name
 relay_names = refl
@@ -57,6 +61,11 @@ pub never_unnamed : {P : Type 0} (v : Version) (schema : Schema) → schema ≡ 
     → P
 never_unnamed First schema = lacks_none has_first_names first_schema schema first_names
 never_unnamed Second schema = lacks_none has_names relay_schema schema relay_names
+
+-- the five names are those of both versions
+pub never_nameless : {P : Type 0} (schema : Schema) → IsOwn schema → has_first_names schema ≡ false → P
+never_nameless schema (inl is) = lacks_none has_first_names first_schema schema first_names is
+never_nameless schema (inr is) = lacks_none has_first_names relay_schema schema relay_first_names is
 
 -- a schema of the relay's that has the names of a version has the keys
 pub never_unkeyed : {P : Type 0} (v : Version) (schema : Schema) → IsOwn schema → has_names_of v schema ≡ true

@@ -7,7 +7,7 @@ use Rattle.sqlite.specs.Order.{Row}
 use Rattle.sqlite.specs.Effect.{Database}
 use Rattle.sqlite_trees.proofs.ListLemmas.{all-permutation}
 use Rattle.relay_types.specs.Rows.{Rows}
-use Rattle.sound_tables.specs.Checks.{AreSoundAt, HasMeta, HasRecords, Refuses}
+use Rattle.sound_tables.specs.Checks.{AreSoundAt, HasMeta, HasRecords, HasVersion, Refuses}
 use Rattle.sound_tables.specs.Versions.{number_of}
 use Rattle.sound_tables.specs.declared.version.Version.{Version}
 use Rattle.sound_tables.specs.declared.fault.TableFault.TheVariants.{Damaged}
@@ -48,6 +48,17 @@ one_shown db (m ∷ []) d shown one = at (db.trees 0) shown.0 refl shown.1 shown
 
 pub one_version : (n version : ℕ) → pos n ≡ pos version → version ≡ n
 one_version n version same = let both : n ≡ version = cc in sym both
+
+-- meta tells the version that is asked for
+pub tells_version : (v : Version) (db : Database) (records : ℕ) → HasRecords (number_of v) db records
+    → HasVersion db (λ version. version ≡ number_of v)
+tells_version v db records has = (
+  record { key = pos 1; version = pos (number_of v); records = pos records },
+  has,
+  number_of v,
+  refl,
+  refl,
+)
 
 -- tables of the version that is asked for, which have no sound rows
 pub damaged : (v : Version) (db : Database) (records : ℕ) → HasRecords (number_of v) db records

@@ -69,9 +69,12 @@ module _ (v : Version) (AreSound : Database → Rows → Type 0) (db : Database)
       HasNoVersionBut db (λ version. (version ≡ 0) ⊎ (version ≡ number_of v)) × ((rows : Rows) → ¬ AreSound db rows)
   IsRefusedMeta (Failed error) = cause error ≢ Other
 
-  -- The same of a look at all tables. They aren't the relay's either where one of their names is no table's.
+  -- The same of a look at all tables. They aren't the relay's either if meta tells this version and one of its names is
+  -- no table's.
   abbrev pub Refuses : TableFault → Type 0
-  Refuses NotOurs = IsRefusedMeta NotOurs ⊎ (has_names_of v db.schema ≡ false)
+  Refuses NotOurs =
+      IsRefusedMeta NotOurs
+      ⊎ (HasVersion db (λ version. version ≡ number_of v) × (has_names_of v db.schema ≡ false))
   Refuses fault = IsRefusedMeta fault
 
 -- what each refusal says of the tables

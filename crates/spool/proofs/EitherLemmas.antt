@@ -79,9 +79,10 @@ module _ (a m b : State) (same : IsUnchanged a m) where
       unmade_behind (Ok records) h = tt
       unmade_behind (Err fault) h = unmade_since a m b same early clean later late fault h
 
-      pub refused_since : (r : Result ℕ OpenFault) → tables.IsRefusedAt a.now table.OldVersion
+      pub refused_since : (r : Result ℕ OpenFault) → IsOwn a.now.schema → tables.IsRefusedAt a.now table.OldVersion
           → IfErr r (IsFirstUnmigrated m b) → IfErr r (IsUnmigrated a b)
-      refused_since (Ok records) old h = tt
-      refused_since (Err fault) old (inl refused) = unmigrated_first a b fault old (inl (first_since fault refused))
-      refused_since (Err fault) old (inr failed) =
-          unmigrated_first a b fault old (inr (unmade_then a m b same early clean later late fault failed))
+      refused_since (Ok records) own old h = tt
+      refused_since (Err fault) own old (inl refused) =
+          unmigrated_first a b fault own old (inl (first_since fault refused))
+      refused_since (Err fault) own old (inr failed) =
+          unmigrated_first a b fault own old (inr (unmade_then a m b same early clean later late fault failed))

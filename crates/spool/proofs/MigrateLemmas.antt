@@ -1,7 +1,7 @@
 -- How tables become those of version 2, by the calls that do it.
-use Rattle.std.proofs.Common.{◌≡◌, ◌≢◌, ◌⊎◌, ◌≤◌, ◌&&◌, inl, inr, ℕ, List, [], ◌∷◌, length, true, false, Result, Ok}
+use Rattle.std.proofs.Common.{◌≡◌, ◌≢◌, ◌⊎◌, ◌≤◌, inl, inr, ℕ, List, [], ◌∷◌, length, true, false, Result, Ok}
 use Rattle.std.proofs.Common.{Err}
-use Rattle.std.proofs.Common.{IfErr, IsTrue, codes, refl, sym, ap, subst, ◌∙◌, arith}
+use Rattle.std.proofs.Common.{IfErr, IsTrue, refl, sym, ap, subst, ◌∙◌, arith}
 use Rattle.std.specs.Prelude.{IsErr}
 use Rattle.sqlite.specs.declared.error.Error.{Error}
 use Rattle.sqlite.specs.Effect.{Database}
@@ -26,7 +26,8 @@ use Rattle.sound_tables.specs.Checks as tables
 use Rattle.sound_tables.specs.declared.fault.TableFault.{TableFault}
 use Rattle.sound_tables.specs.declared.fault.TableFault.TheVariants as table
 use Rattle.sound_tables.proofs.BothRefused.{refusal_since}
-use Rattle.sound_tables.specs.Keys.{has_table, has_tables}
+use Rattle.sound_tables.specs.Keys.{has_tables}
+use Rattle.sound_tables.proofs.KeyedLemmas.{never_nameless}
 use Rattle.sound_tables.proofs.RefusedLemmas.{meta_tells, one_told}
 use Rattle.spool.specs.Adopting.{AreAdopted, IsOfStore, IsOldOrOfStore, IsOnlyRead, IsReadOpen, IsUnadopted}
 use Rattle.spool.specs.Adopting.{IsToldAs, LeavesRead, TellsCheck, fault_by, fault_of}
@@ -295,15 +296,14 @@ of_first : (db : Database) → tables.IsRefusedAt db table.OldVersion → IsOfFi
 of_first db (m, has, version, is, (above, below)) = (m, has, version, is, omega (arith, above, below))
 
 -- meta told an older version, and the five tables were refused
-first_refused : (a b : State) (fault : OpenFault) → tables.IsRefusedAt a.now table.OldVersion
+first_refused : (a b : State) (fault : OpenFault) → IsOwn a.now.schema → tables.IsRefusedAt a.now table.OldVersion
     → IsFirstUnadopted a b fault → IsUnmigrated a b fault
-first_refused a b NotOurs old (inl none) = inl (inl none)
-first_refused a b NotOurs old (inr unnamed) = inl
-    (inr (ap (λ it. it && has_table a.now.schema (codes "topics")) unnamed))
-first_refused a b NewerVersion (m, has, version, is, (above, below)) (n, other, later, told, past) =
+first_refused a b NotOurs own old (inl none) = inl (inl none)
+first_refused a b NotOurs own old (inr (told, unnamed)) = never_nameless a.now.schema own unnamed
+first_refused a b NewerVersion own (m, has, version, is, (above, below)) (n, other, later, told, past) =
     let one = one_told a.now m n version later has is other told in absurd (omega (arith, one, below, past))
-first_refused a b OldVersion old (m, has, version, is, (above, below)) = absurd (omega (arith, above, below))
-first_refused a b Damaged old ((m, has, told), none) = ((m, has, λ version is. two (told version is)), never)
+first_refused a b OldVersion own old (m, has, version, is, (above, below)) = absurd (omega (arith, above, below))
+first_refused a b Damaged own old ((m, has, told), none) = ((m, has, λ version is. two (told version is)), never)
   where
     two : {version : ℕ} → (version ≡ 0) ⊎ (version ≡ 1) → version ≤ 2
     two (inl none_is) = omega (arith, none_is)
@@ -317,8 +317,8 @@ first_refused a b Damaged old ((m, has, told), none) = ((m, has, λ version is. 
           | inl none_is ↦ absurd (omega (arith, none_is))
           | inr one ↦ absurd (omega (arith, one))
         ]
-first_refused a b (Store error) old is = inl is
-first_refused a b OutOfMemory old h = tt
+first_refused a b (Store error) own old is = inl is
+first_refused a b OutOfMemory own old h = tt
 
 -- or the table of topics wasn't made beside them
 first_unmade : (a b : State) (fault : OpenFault) → tables.IsRefusedAt a.now table.OldVersion → IsUnmadeFor a b fault
@@ -330,10 +330,10 @@ first_unmade a b Damaged old none = absurd none
 first_unmade a b (Store error) old caused = inr (of_first a.now old, caused)
 first_unmade a b OutOfMemory old h = tt
 
-pub unmigrated_first : (a b : State) (fault : OpenFault) → tables.IsRefusedAt a.now table.OldVersion
-    → IsFirstUnmigrated a b fault → IsUnmigrated a b fault
-unmigrated_first a b fault old (inl refused) = first_refused a b fault old refused
-unmigrated_first a b fault old (inr failed) = first_unmade a b fault old failed
+pub unmigrated_first : (a b : State) (fault : OpenFault) → IsOwn a.now.schema
+    → tables.IsRefusedAt a.now table.OldVersion → IsFirstUnmigrated a b fault → IsUnmigrated a b fault
+unmigrated_first a b fault own old (inl refused) = first_refused a b fault own old refused
+unmigrated_first a b fault own old (inr failed) = first_unmade a b fault old failed
 
 pub unmade_else : (a b : State) (fault : OpenFault) → (fault ≡ OldVersion → ⊥) → IsOldOrOfStore a b fault
     → IsUnmade a b fault

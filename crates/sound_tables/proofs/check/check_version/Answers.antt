@@ -10,7 +10,7 @@ use Rattle.sound_tables.proofs.KeyedLemmas.{named_readable, never_foreign, never
 use Rattle.sound_tables.proofs.LackLemmas.{lacks_sound}
 use Rattle.sound_tables.proofs.LookLemmas.{are_read, clean_early, refused_since, same_now, schema_still, told_err}
 use Rattle.sound_tables.proofs.LookLemmas.{told_ok}
-use Rattle.sound_tables.proofs.MetaLemmas.{damaged}
+use Rattle.sound_tables.proofs.MetaLemmas.{damaged, tells_version}
 use Rattle.sound_tables.proofs.ReadOrderLemmas.{sound_in_order}
 use Rattle.sound_tables.proofs.RefusedLemmas.{not_other, only_memory, told_old}
 use Rattle.sound_tables.proofs.VersionLemmas.{readable_at, readable_own, schema_at}
@@ -157,8 +157,11 @@ returns-then-not-has_meta-clause-first g c clean rows it = never_foreign _ (inl 
     (sym c.has_meta.ensures.meta ∙ c.if-not-has_meta.true)
 
 pub returns-then-not-is_whole-clause-refused : goal.returns-then-not-is_whole-clause-refused
-returns-then-not-is_whole-clause-refused g c clean own = inr
-    (sym c.look_at_schema-is_whole.ensures.names ∙ c.if-not-is_whole.true)
+returns-then-not-is_whole-clause-refused g c clean own = inr (
+  tells_version c.args.version (state g.S.Store c.args.conn.now).now c.in_ok-records.records
+      (c.in_ok-records.ensures.found clean own),
+  sym c.look_at_schema-is_whole.ensures.names ∙ c.if-not-is_whole.true,
+)
 
 pub returns-then-not-is_whole-clause-sound : goal.returns-then-not-is_whole-clause-sound
 returns-then-not-is_whole-clause-sound g c clean rows it = never_unnamed c.args.version _

@@ -63,7 +63,7 @@ returns-then-is_old-clause-refused g c clean own =
     let later = c.migrate_first_tables.ensures in
     let early : HasCleanDisk m = omega (arith, clean, later.survives.clean) in
     let same = first.old early (ap Err is) in
-    refused_since a m b same first.survives early later.survives clean c.migrate_first_tables.result
+    refused_since a m b same first.survives early later.survives clean c.migrate_first_tables.result own
     (subst (IsUnadopted a m) is (first.refused early own)) (later.refused clean (own_since a m b same own))
 
 pub returns-then-is_old-clause-sound : goal.returns-then-is_old-clause-sound
