@@ -33,9 +33,10 @@ use Rattle.spool.specs.Adopting.{AreAdopted, IsOfStore, IsOldOrOfStore, IsOnlyRe
 use Rattle.spool.specs.Adopting.{IsToldAs, LeavesRead, TellsCheck, fault_by, fault_of}
 use Rattle.spool.specs.Vaults.{HoldsAt}
 use Rattle.spool.specs.Entering.{IsCause}
-use Rattle.spool.specs.Migrating.{AreMigrated, AreSoundRows, HaveRows, IsFirstUnadopted, IsFirstUnmigrated}
-use Rattle.spool.specs.Migrating.{IsMigratedTo, IsUnmade, IsUnmadeFor, IsUnmigrated, LeavesMigrated, MayMigrate}
-use Rattle.spool.specs.Migrating.{Migrated, has_topics}
+use Rattle.spool.specs.Books.{KeepsOpen}
+use Rattle.spool.specs.Migrating.{AreMigrated, AreSoundIfFirst, AreSoundRows, HaveRows, IsFirstUnadopted}
+use Rattle.spool.specs.Migrating.{IsFirstUnmigrated, IsMigratedTo, IsUnmade, IsUnmadeFor, IsUnmigrated, KeepsRows}
+use Rattle.spool.specs.Migrating.{LeavesMigrated, MayCommit, MayMigrate, Migrated, has_topics}
 use Rattle.spool.specs.Opening.{TellsFault}
 use Rattle.spool.specs.declared.faults.OpenFault.{OpenFault}
 use Rattle.spool.specs.declared.faults.OpenFault.TheVariants.{NotOurs, NewerVersion, OldVersion, Damaged, Store}
@@ -104,15 +105,30 @@ pub topics_free : {P : Type 0} (schema : Schema) → has_topics schema ≡ false
 topics_free schema free is = absurd (let no : true ≡ false = sym topics_there ∙ ap has_topics (sym is) ∙ free in cc)
 
 -- a store without a table of topics that a migration was tried on
-pub may_migrate : (a b : State) → has_topics a.now.schema ≡ false → (IsTrue b.is_open → IsTrue a.is_open)
-    → Survives a b (Migrated a) → HasCleanDisk b → MayMigrate a b
-may_migrate a b free was_open survives clean = record {
+pub may_commit : (a b : State) → has_topics a.now.schema ≡ false → (IsTrue b.is_open → IsTrue a.is_open)
+    → Survives a b (Migrated a) → HasCleanDisk b → MayCommit a b
+may_commit a b free was_open survives clean = record {
   stays = λ is_open. (was_open is_open, λ rows stands. topics_free a.now.schema free stands.now.schema_is);
   leaves = λ db may. elim (survives.crash clean db may) [ inl was ↦ inl was | inr made ↦ inr (free, made) ];
 }
 
-pub may_stay : (a : State) → MayMigrate a a
+pub may_stay : (a : State) → MayCommit a a
 may_stay a = record { stays = λ is_open. (is_open, λ rows stands. stands); leaves = λ db may. inl may }
+
+-- what it leaves of tables that the check took
+pub may_migrate : (a b : State) (records : ℕ)
+    → (a.now.schema ≡ first_schema → tables.HasSound tables.AreSoundFirstTables a.now records) → MayCommit a b
+    → MayMigrate a b
+may_migrate a b records found may = record {
+  stays = may.stays;
+  leaves = λ db left. elim (may.leaves db left) [
+    | inl was ↦ inl was
+    | inr (free, made) ↦ inr (record { free = free; kept = made; sound = sound_rows db made })
+  ];
+}
+  where
+    sound_rows : (db : Trees) → Migrated a db → AreSoundIfFirst a db
+    sound_rows db made is = let (rows, sound, same) = found is in (rows, sound, made rows sound.tables)
 
 -- a transaction that was refused for this error, and a look at the store after it
 pub unmade_for : (a m b : State) (error : Error) (told : OpenFault) → (HasCleanDisk m → IsCause a m error)
@@ -153,30 +169,51 @@ module _ (a m b : State) (same : IsUnchanged a m) (early : Survives a m (λ _. �
   schema_same : m.now.schema ≡ a.now.schema
   schema_same = ap (λ (db : Database). db.schema) same.0.now_is
 
+  pub free_since : has_topics m.now.schema ≡ false → has_topics a.now.schema ≡ false
+  free_since free = sym (ap has_topics schema_same) ∙ free
+
+  first_then : (rows : Rows) → IsFirstTables a.now rows → IsFirstTables m.now rows
+  first_then rows = subst (λ d. IsFirstTables d rows) (sym same.0.now_is)
+
+  stays_since : KeepsOpen m b → KeepsOpen a b
+  stays_since stays is_open =
+      let later = stays is_open in
+      let before = same_keeps a m same later.0 in
+      (before.0, λ rows stands. later.1 rows (before.1 rows stands))
+
+  left_before : (db : Trees) → m.may_leave db → a.may_leave db
+  left_before db was = elim (early.crash clean db was) [ inl first ↦ first | inr none ↦ absurd none ]
+
+  kept_since : (db : Trees) → KeepsRows m db → KeepsRows a db
+  kept_since db it = record {
+    free = free_since it.free;
+    kept = λ rows first. it.kept rows (first_then rows first);
+    sound = λ is.
+        let (rows, sound, made) = it.sound (schema_same ∙ is) in
+        (rows, subst (λ d. tables.AreSoundFirstTables d rows) same.0.now_is sound, made);
+  }
+
   pub may_since : MayMigrate m b → MayMigrate a b
   may_since may = record {
-    stays = λ is_open.
-        let later = may.stays is_open in
-        let before = same_keeps a m same later.0 in
-        (before.0, λ rows stands. later.1 rows (before.1 rows stands));
+    stays = stays_since may.stays;
     leaves = λ db left. elim (may.leaves db left) [
-      | inl was ↦ elim (early.crash clean db was) [ inl first ↦ inl first | inr none ↦ absurd none ]
-      | inr (free, made) ↦ inr (
-        sym (ap has_topics schema_same) ∙ free,
-        λ rows first. made rows (subst (λ d. IsFirstTables d rows) (sym same.0.now_is) first),
-      )
+      | inl was ↦ inl (left_before db was)
+      | inr it ↦ inr (kept_since db it)
+    ];
+  }
+
+  pub commit_since : MayCommit m b → MayCommit a b
+  commit_since may = record {
+    stays = stays_since may.stays;
+    leaves = λ db left. elim (may.leaves db left) [
+      | inl was ↦ inl (left_before db was)
+      | inr (free, made) ↦ inr (free_since free, λ rows first. made rows (first_then rows first))
     ];
   }
 
   read_since : IsReadOpen m b → IsReadOpen a b
   read_since (read, is_open) = (
-    record {
-      stays = λ still.
-          let later = read.stays still in
-          let before = same_keeps a m same later.0 in
-          (before.0, λ rows stands. later.1 rows (before.1 rows stands));
-      leaves = λ db may. elim (early.crash clean db (read.leaves db may)) [ inl was ↦ was | inr none ↦ absurd none ];
-    },
+    record { stays = stays_since read.stays; leaves = λ db may. left_before db (read.leaves db may) },
     is_open,
   )
 
@@ -188,11 +225,8 @@ module _ (a m b : State) (same : IsUnchanged a m) (early : Survives a m (λ _. �
   left_since (Store error) may = may_since may
   left_since OutOfMemory may = may_since may
 
-  pub free_since : has_topics m.now.schema ≡ false → has_topics a.now.schema ≡ false
-  free_since free = sym (ap has_topics schema_same) ∙ free
-
   pub made_since : IsMigratedTo m b → IsMigratedTo a b
-  made_since made rows first = made rows (subst (λ d. IsFirstTables d rows) (sym same.0.now_is) first)
+  made_since made rows first = made rows (first_then rows first)
 
   module _ {P : Trees → Type 0} (later : Survives m b P) (late : HasCleanDisk b) where
     pub unmade_since : (fault : OpenFault) → IsUnmade m b fault → IsUnmade a b fault

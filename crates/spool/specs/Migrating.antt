@@ -13,6 +13,7 @@ use Rattle.spool_sql.specs.Causes.{cause}
 use Rattle.spool_sql.specs.declared.cause.Cause.TheVariants as of
 use Rattle.spool_sql.specs.Steps.{MayLeave}
 use Rattle.spool_sql.specs.Stored.{AreTablesOf, IsFirstTables, IsTables}
+use Rattle.spool_sql.specs.Tables.{first_schema}
 use Rattle.sound_tables.specs.Checks as tables
 use Rattle.sound_tables.specs.declared.fault.TableFault.TheVariants as table
 use Rattle.spool.specs.Adopting.{LeavesRead}
@@ -53,12 +54,24 @@ Migrated old db = (rows : Rows) → IsFirstTables old.now rows → AreTablesOf d
 abbrev pub IsMigratedTo : State → State → Type 0
 IsMigratedTo old new = (rows : Rows) → IsFirstTables old.now rows → Rests new rows
 
--- If the store is still open it was so, and tables of version 2 that stood stand. A stop leaves what it left before,
--- or, where no table of topics was there, what the migration writes.
+-- If the schema was that of version 1, its tables had sound rows, and the tables of version 2 on the disk have these. So
+-- damaged tables aren't migrated.
+abbrev pub AreSoundIfFirst : State → Trees → Type 0
+AreSoundIfFirst old db =
+    old.now.schema ≡ first_schema → (rows : Rows) × tables.AreSoundFirstTables old.now rows × AreTablesOf db rows
+
+-- The tables of version 2 on the disk have all rows that tables of version 1 had, and these were sound. No table of
+-- topics was there.
+pub record KeepsRows (old : State) (db : Trees) : Type 0 where
+  pub free : has_topics old.now.schema ≡ false
+  pub kept : Migrated old db
+  pub sound : AreSoundIfFirst old db
+
+-- If the store is still open it was so, and tables of version 2 that stood stand. A crash leaves what it left before,
+-- or the rows of version 1 in version 2.
 pub record MayMigrate (old new : State) : Type 0 where
   pub stays : KeepsOpen old new
-  pub leaves : (db : Trees) → new.may_leave db
-      → old.may_leave db ⊎ ((has_topics old.now.schema ≡ false) × Migrated old db)
+  pub leaves : (db : Trees) → new.may_leave db → old.may_leave db ⊎ KeepsRows old db
 
 -- What each refusal leaves. Tables that were refused were only read.
 abbrev pub LeavesMigrated : State → State → OpenFault → Type 0
@@ -108,6 +121,13 @@ IsFirstUnadopted old new OldVersion = tables.IsFirstRefusedAt old.now table.OldV
 IsFirstUnadopted old new Damaged = tables.IsFirstRefusedAt old.now table.Damaged
 IsFirstUnadopted old new (Store error) = cause error ≡ of.Store
 IsFirstUnadopted old new OutOfMemory = Unit {0}
+
+-- As `MayMigrate` for the transaction, which comes after the check and doesn't know whether the rows are sound. A crash
+-- leaves what it left before, or, where no table of topics was there, what the migration writes.
+pub record MayCommit (old new : State) : Type 0 where
+  pub stays : KeepsOpen old new
+  pub leaves : (db : Trees) → new.may_leave db
+      → old.may_leave db ⊎ ((has_topics old.now.schema ≡ false) × Migrated old db)
 
 -- why the table of topics wasn't made beside them: its name was taken, or as above
 abbrev pub IsUnmadeFor : (old new : State) → OpenFault → Type 0

@@ -11,7 +11,7 @@ ghost use Rattle.sound_tables.specs.Keys.{has_first_tables, has_meta};
 ghost use Rattle.spool.specs.Adopting.{FailsIfOfStore, HaveFirstHistory, HaveHistory, IsForeign, IsOfStore};
 ghost use Rattle.spool.specs.Entering.{IsCause};
 ghost use Rattle.spool.specs.Migrating.{AreMigrated, IsFirstUnmigrated, IsMigratedTo, IsUnmade, IsUnmadeFor};
-ghost use Rattle.spool.specs.Migrating.{IsUnmigrated, LeavesMigrated, MayMigrate, Migrated, has_topics};
+ghost use Rattle.spool.specs.Migrating.{IsUnmigrated, LeavesMigrated, MayCommit, MayMigrate, Migrated, has_topics};
 ghost use Rattle.spool.specs.Opening.{IsBack};
 
 use crate::adopt::{adopt_first_tables, adopt_tables};
@@ -92,7 +92,7 @@ fn add_topics<S: Alter>(conn: &mut Connection<S>) -> Result<(), OpenFault>
     ensures made { IfClean S.Store conn.old conn.new (λ a b. OnOk result (IsMigratedTo a b)) }
     ensures free { OnOk result (has_topics (state S.Store conn.old).now.schema ≡ false) }
     ensures cause { IfClean S.Store conn.old conn.new (λ a b. IfErr result (IsUnmadeFor a b)) }
-    ensures left { IfClean S.Store conn.old conn.new MayMigrate }
+    ensures left { IfClean S.Store conn.old conn.new MayCommit }
     ensures untouched { result ≡ Err OpenFault.NotOurs → conn.new ≡ conn.old }
     ensures undone { IfClean S.Store conn.old conn.new
         (λ a b. OnErr result (IsTrue b.is_open → a.now ≡ a.committed → IsBack a b)) }

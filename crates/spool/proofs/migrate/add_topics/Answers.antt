@@ -3,7 +3,7 @@ use Rattle.sqlite.specs.State.{HasCleanDisk}
 use Rattle.sqlite.specs.Held.{state}
 use Rattle.spool.specs.Migrating.{has_topics}
 use Rattle.spool.proofs.CheckReads.{back_behind, was_open}
-use Rattle.spool.proofs.MigrateLemmas.{may_migrate, may_stay, survives_look, unmade_for}
+use Rattle.spool.proofs.MigrateLemmas.{may_commit, may_stay, survives_look, unmade_for}
 use Rattle.spool.proofs.migrate.add_topics.Goals as goal
 
 pub returns-then-has_topics-clause-left : goal.returns-then-has_topics-clause-left
@@ -21,7 +21,7 @@ returns-in-Ok-clause-left g c clean =
     let a = state g.S.Store c.args.conn.now in
     let free : has_topics a.now.schema ≡ false = rw c.schema.ensures.value at
     (sym c.has_topics.ensures ∙ c.if-has_topics.false) in
-    may_migrate a (state g.S.Store c.add_in_transaction.new.conn) free (c.in-Ok.ensures.was_open clean)
+    may_commit a (state g.S.Store c.add_in_transaction.new.conn) free (c.in-Ok.ensures.was_open clean)
     c.in-Ok.ensures.survives clean
 
 pub returns-in-Err-clause-left : goal.returns-in-Err-clause-left
@@ -32,7 +32,7 @@ returns-in-Err-clause-left g c clean =
     let early : HasCleanDisk m = omega (arith, clean, c.fault_of.ensures.survives.clean) in
     let free : has_topics a.now.schema ≡ false = rw c.schema.ensures.value at
     (sym c.has_topics.ensures ∙ c.if-has_topics.false) in
-    may_migrate a b free (λ is_open. c.in-Err.ensures.was_open early
+    may_commit a b free (λ is_open. c.in-Err.ensures.was_open early
     (was_open m b (c.fault_of.ensures.ended clean) is_open))
     (survives_look a m b c.in-Err.ensures.survives c.fault_of.ensures.survives) clean
 

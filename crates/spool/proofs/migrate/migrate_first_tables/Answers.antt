@@ -5,8 +5,8 @@ use Rattle.sqlite.specs.Held.{state}
 use Rattle.spool.specs.Adopting.{IsReadOpen}
 use Rattle.spool.proofs.CheckReads.{back_then}
 use Rattle.spool.proofs.EitherLemmas.{first_whole}
-use Rattle.spool.proofs.MigrateLemmas.{free_since, left_read, left_unmade, made_since, may_since, survives_since}
-use Rattle.spool.proofs.MigrateLemmas.{unmade_first, unmade_read, unmade_then}
+use Rattle.spool.proofs.MigrateLemmas.{commit_since, free_since, left_read, left_unmade, made_since, may_migrate}
+use Rattle.spool.proofs.MigrateLemmas.{survives_since, unmade_first, unmade_read, unmade_then}
 use Rattle.spool.proofs.migrate.migrate_first_tables.Goals as goal
 
 -- ---- the check was refused
@@ -73,7 +73,8 @@ returns-in_err-add_topics-clause-left g c =
     rw (p.1, p.2) (λ clean.
     let same = checked.same (early clean) in
     left_unmade a m b c.in_err-add_topics.field-0.0 (later.cause clean)
-    (may_since a m b same checked.survives (early clean) (later.left clean))
+    (may_migrate a b c.in_ok-records.records (checked.found (early clean))
+    (commit_since a m b same checked.survives (early clean) (later.left clean)))
     (λ is. subst (λ h. IsReadOpen a (state g.S.Store h)) (sym (later.untouched (ap Err is)))
     (checked.read (early clean), same.0.is_open)))
 
@@ -125,8 +126,9 @@ returns-clause-left g c clean =
     let m = state g.S.Store c.adopt_first_tables.new.conn in
     let b = state g.S.Store c.add_topics.new.conn in
     let early : HasCleanDisk m = omega (arith, clean, c.add_topics.ensures.survives.clean) in
-    may_since a m b (c.in_ok-records.ensures.same early) c.in_ok-records.ensures.survives early
-    (c.in_ok-add_topics.ensures.left clean)
+    may_migrate a b c.in_ok-records.records (c.in_ok-records.ensures.found early)
+    (commit_since a m b (c.in_ok-records.ensures.same early) c.in_ok-records.ensures.survives early
+    (c.in_ok-add_topics.ensures.left clean))
 
 pub returns-clause-survives : goal.returns-clause-survives
 returns-clause-survives g c =
