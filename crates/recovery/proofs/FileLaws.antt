@@ -1,9 +1,12 @@
 -- A file is opened as what it and its log held.
-use Rattle.std.proofs.Common.{◌≡◌, List, [], ◌∷◌, Bool, Result, Ok, Err, inl, inr, sym, subst, ◌∙◌}
-use Rattle.std.specs.Prelude.{IsTrue, IfOk, IfErr}
+use Rattle.std.proofs.Common.{◌≡◌, ◌≢◌, ◌⊎◌, List, [], ◌∷◌, Bool, false, Result, Ok, Err, inl, inr, refl, sym, subst}
+use Rattle.std.proofs.Common.{◌∙◌}
+use Rattle.std.proofs.lemmas.Bool.{false≢true}
+use Rattle.std.specs.Prelude.{IsTrue, IfOk, IfErr, MatchResult}
 use Rattle.sqlite.specs.Store.{Ghosts}
-use Rattle.sqlite.specs.State.{State, IsLive, Opens}
+use Rattle.sqlite.specs.State.{State, HasCleanDisk, IsLive, Opens}
 use Rattle.sqlite.specs.Effect.{Database}
+use Rattle.sqlite.specs.Held.{Held, state}
 use Rattle.sqlite.specs.Tree.{Trees}
 use Rattle.sqlite.specs.Schema.{Schema}
 use Rattle.sqlite.specs.Table.{Table}
@@ -16,19 +19,23 @@ use Rattle.relay_types.specs.Rows.{Rows, rows_of}
 use Rattle.spool_sql.specs.Stored.{AreFirstTablesOf, AreTablesOf, IsFirstTables, IsTables}
 use Rattle.spool_sql.specs.Tables.{IsOwn, no_schema}
 use Rattle.spool_sql.proofs.StepLemmas.{opened_first, opened_tables}
-use Rattle.spool.specs.Adopting.{HaveFirstHistory, HaveHistory}
+use Rattle.sound_tables.specs.Keys.{has_first_tables, has_meta}
+use Rattle.spool.specs.Adopting.{FailsIfOfStore, HaveFirstHistory, HaveHistory, IsForeign, IsOnlyRead}
 use Rattle.spool.specs.Migrating.{HaveRows, LeavesMigrated, MayMigrate}
 use Rattle.spool.proofs.MigrateLemmas.{only_read}
+use Rattle.spool.specs.Opening.{LeavesAt}
 use Rattle.spool.specs.declared.faults.OpenFault.{OpenFault}
 use Rattle.spool.specs.declared.faults.OpenFault.TheVariants.{NotOurs, NewerVersion, OldVersion, Damaged, Store}
 use Rattle.spool.specs.declared.faults.OpenFault.TheVariants.{OutOfMemory}
 use Rattle.spool.specs.Vaults.{VaultValue}
 use Rattle.desk.specs.Desks.{DeskValue}
 use Rattle.desk.specs.World.{World, all_records}
-use Rattle.recovery.specs.Files.{HoldsEither, HoldsFirstRows, HoldsRows, HoldsLeftOf, IsMadeOrReopened, IsFileOpened}
-use Rattle.recovery.specs.Files.{IsFileRefused}
-use Rattle.recovery.specs.Reopenings.{AreOpenedAt, AreOpenedAtOne, IsNotMigrated, IsOfReading, IsReadingRefusal}
-use Rattle.recovery.specs.Reopenings.{IsUnopened}
+use Rattle.recovery.specs.Files.{HoldsEither, HoldsFirstRows, HoldsFirstTables, HoldsRows, HoldsLeftOf}
+use Rattle.recovery.specs.Files.{IsMadeOrReopened, IsFileOpened, IsFileRefused}
+use Rattle.recovery.specs.Left.{HasNoTable}
+use Rattle.recovery.specs.Openings.{IsNewStore, IsRefusedAs, LeavesOr}
+use Rattle.recovery.specs.Reopenings.{AreOpenedAt, AreOpenedAtOne, IsNotMigrated, IsOfReading, IsOpenBehind}
+use Rattle.recovery.specs.Reopenings.{IsReadingRefusal, IsUnopened, ReopensLeft}
 use Rattle.recovery.proofs.ReopeningLaws.{opens_one}
 
 abbrev HasNone : List Table → Type 0
@@ -66,27 +73,36 @@ finds_either image s live opens finds rows (inr held) = inr (finds_first image s
 pub finds_trees : (image : Image) (s : State) → Opens s → FindsIn image s → AreFoundIn image s.now.trees
 finds_trees image s opens finds = subst (λ (db : Database). AreFoundIn image db.trees) (sym opens.clean) finds.reads
 
+-- the file held the five tables that the connection shows
+pub holds_first : (image : Image) (s : State) → IsLive s → Opens s → FindsIn image s
+    → IsTrue (has_first_tables s.now.schema) → HoldsFirstTables image
+holds_first image s live opens finds whole = (s.now, finds_trees image s opens finds, (live opens.is_open).0, whole)
+
 module _ {S : Type 0} (g : Ghosts S) (desk : DeskValue) (vault : VaultValue S) where
   of_tables : (db : Database) → IsMadeOrReopened g db desk vault → (history : History) → IsLegal (records_of history)
       → HaveRows db (rows_of (records_of history)) → AreOpenedAt g desk vault history
   of_tables db (inl (none, made)) history legal have = not_both db.schema none (own_rows db _ have)
   of_tables db (inr (stand, reopened)) history legal have = (reopened (own_rows db _ have)).each history legal have
 
-  pub file_opened : (image : Image) (s : State) → IsLive s → Opens s → FindsIn image s
-      → IsMadeOrReopened g s.now desk vault → IsFileOpened g image desk vault
-  file_opened image s live opens finds made = record {
-    found = s.now;
-    finds = finds_trees image s opens finds;
+  pub file_opened : (image : Image) (conn : Held S) → IsLive (state g conn) → Opens (state g conn)
+      → FindsIn image (state g conn) → IsMadeOrReopened g (state g conn).now desk vault
+      → ((state g conn).now.schema ≢ no_schema → IsOpenBehind (state g conn) (state g vault.conn))
+      → IsFileOpened g image desk vault
+  file_opened image conn live opens finds made behind = record {
+    found = (state g conn).now;
+    finds = finds_trees image (state g conn) opens finds;
+    lists = (live opens.is_open).0;
     opens =
         made;
     each = each;
     left = left;
+    leaves = λ some. (conn, refl, opens, behind some);
   }
     where
       each : (history : History) → IsLegal (records_of history) → HoldsEither image (rows_of (records_of history))
           → AreOpenedAt g desk vault history
-      each history legal held = of_tables s.now made history legal
-          (finds_either image s live opens finds (rows_of (records_of history)) held)
+      each history legal held = of_tables (state g conn).now made history legal
+          (finds_either image (state g conn) live opens finds (rows_of (records_of history)) held)
 
       left : (w : World) → IsLegal (all_records w) → HoldsLeftOf image w → AreOpenedAtOne g desk vault w w.left
       left w legal (rows, is_left, held) = opens_one g desk vault w legal rows is_left
@@ -95,13 +111,22 @@ module _ {S : Type 0} (g : Ghosts S) (desk : DeskValue) (vault : VaultValue S) w
 -- What a refusal says of what was found is said of what the file and its log held.
 pub file_refused : (image : Image) (old new : State) (fault : OpenFault) (is_new : Bool) → IsLive old → Opens old
     → FindsIn image old
+    → (has_meta old.now.schema ≡ false → IsForeign fault)
+    → (has_meta old.now.schema ≡ false → ¬ IsNewStore is_new old.now.schema → FailsIfOfStore new fault)
     → (IsOwn old.now.schema → IsUnopened old new fault) → (HaveHistory old.now → IsReadingRefusal old new fault)
     → (HaveFirstHistory old.now → IsNotMigrated old new fault)
-    → (IsTrue is_new → old.now.schema ≡ no_schema → IsOfReading fault) → IsFileRefused image is_new old new fault
-file_refused image old new fault is_new live opens finds says sound first made = record {
+    → (IsTrue is_new → old.now.schema ≡ no_schema → IsOfReading fault × (IsOnlyRead old new ⊎ LeavesAt old new fault))
+    → (¬ IsNewStore is_new old.now.schema → LeavesMigrated old new fault) → IsFileRefused image is_new old new fault
+file_refused image old new fault is_new live opens finds ours foreign says sound first made leaves = record {
   finds = finds_trees image old opens finds;
+  lists = (live opens.is_open).0;
+  opened = opens;
+  ours = ours;
+  foreign = foreign;
   says = says;
-  made = made;
+  made = λ new none. (made new none).0;
+  unmade = λ new. (made new.0 new.1).1;
+  leaves = leaves;
   sound = λ history legal held. sound (
     records_of history,
     legal,
@@ -114,6 +139,65 @@ file_refused image old new fault is_new live opens finds says sound first made =
         (rows_of (records_of history)) held,
   );
 }
+
+-- ---- What is said of every store
+
+-- a store is left as it is found
+pub read_same : (s : State) → IsOnlyRead s s
+read_same s = record { stays = λ is_open. (is_open, λ rows stands. stands); leaves = λ db may. may }
+
+pub may_stay : (s : State) → MayMigrate s s
+may_stay s = only_read s s (read_same s)
+
+-- a file that was there before isn't new
+pub not_new : (is_new : Bool) (schema : Schema) → is_new ≡ false → ¬ IsNewStore is_new schema
+not_new is_new schema old new = false≢true (sym old ∙ new.0)
+
+-- a store that has no table is begun
+pub begun : {S : Type 0} (g : Ghosts S) (conn : Held S) → (state g conn).now.schema ≡ no_schema → HasNoTable g conn
+begun g conn none = record { schema_is = none; empty = tt }
+
+-- no stop left such a store
+pub none_left : {S : Type 0} (g : Ghosts S) (conn : Held S) (desk : DeskValue) (vault : VaultValue S)
+    → (state g conn).now.schema ≡ no_schema → ReopensLeft g conn desk vault
+none_left g conn desk vault none w legal (rows, is_left, stands) =
+    not_both (state g conn).now.schema none (inr stands.now.schema_is)
+
+-- the making of the tables is refused as foreign
+pub foreign_unmade : (schema : Schema) (fault : OpenFault) → IsRefusedAs schema fault → IsForeign fault
+foreign_unmade schema NotOurs refused = tt
+foreign_unmade schema NewerVersion none = none
+foreign_unmade schema OldVersion none = none
+foreign_unmade schema Damaged none = none
+foreign_unmade schema (Store cause) refused = tt
+foreign_unmade schema OutOfMemory refused = tt
+
+-- what a refusal of it leaves, also where the connection came back as it was
+pub left_or : {S : Type 0} (g : Ghosts S) (old new : Held S) (fault : OpenFault) → HasCleanDisk (state g new)
+    → LeavesOr g old new fault → IsOnlyRead (state g old) (state g new) ⊎ LeavesAt (state g old) (state g new) fault
+left_or {S} g old new fault clean (inl same) =
+    inl (subst (λ (it : Held S). IsOnlyRead (state g old) (state g it)) (sym same) (read_same (state g old)))
+left_or g old new fault clean (inr leaves) = inr (leaves clean)
+
+-- what a fact of an answer, or of a refusal, makes of a clause on both
+module _ {A E : Type 0} (P Q : E → Type 0) (N : Type 0) where
+  pub of_new : (r : Result A E) → N → ((e : E) → P e → Q e) → IfErr r P → MatchResult r (λ _. N) Q
+  of_new (Ok x) new so h = new
+  of_new (Err e) new so h = so e h
+
+pub of_none : {A E : Type 0} (N : Type 0) (Q : E → Type 0) (r : Result A E) → MatchResult r (λ _. ⊥) Q
+    → MatchResult r (λ _. N) Q
+of_none N Q (Ok x) none = absurd none
+of_none N Q (Err e) q = q
+
+-- what is so of each answer
+pub each_answer : {A E : Type 0} (P : A → Type 0) (r : Result A E) → ((x : A) → P x) → IfOk r P
+each_answer P (Ok x) each = each x
+each_answer P (Err e) each = tt
+
+pub answered_so : {A E : Type 0} (P Q : A → Type 0) (r : Result A E) → ((x : A) → P x → Q x) → IfOk r P → IfOk r Q
+answered_so P Q (Ok x) so h = so x h
+answered_so P Q (Err e) so h = tt
 
 -- What was opened had the tables.
 pub of_whole : {A E : Type 0} (P Q R : A → Type 0) (r : Result A E) → IfOk r P → IfOk r Q → ((x : A) → P x → Q x → R x)

@@ -1,13 +1,18 @@
 -- What an opening gives.
-use Rattle.std.specs.Prelude.{◌≡◌, ◌⊎◌, false, IsTrue}
+use Rattle.std.specs.Prelude.{◌≡◌, ◌⊎◌, Bool, false, IsTrue}
 use Rattle.sqlite.specs.Store.{Ghosts}
 use Rattle.sqlite.specs.Held.{Held}
 use Rattle.sqlite.specs.Schema.{Schema}
 use Rattle.spool_sql.specs.Steps.{IfClean}
+use Rattle.spool_sql.specs.Tables.{no_schema}
 use Rattle.spool.specs.Opening.{has_ours, LeavesAt}
 use Rattle.spool.specs.declared.faults.OpenFault.{OpenFault}
 use Rattle.spool.specs.declared.faults.OpenFault.TheVariants.{NotOurs, NewerVersion, OldVersion, Damaged, Store}
 use Rattle.spool.specs.declared.faults.OpenFault.TheVariants.{OutOfMemory}
+
+-- The store is new, and has no table, no index and no view.
+abbrev pub IsNewStore : Bool → Schema → Type 0
+IsNewStore is_new schema = IsTrue is_new × (schema ≡ no_schema)
 
 -- Why a store without tables wasn't opened. A table of ours is told as such, or memory was refused before the look at
 -- the store.

@@ -1,5 +1,5 @@
 //! The opening of a file.
-ghost use Rattle.std.specs.Prelude.{◌≡◌, ◌≢◌, ◌↔◌, ◌<◌, true, false, Err, IfErr, IfOk, IsTrue, MatchResult};
+ghost use Rattle.std.specs.Prelude.{◌≡◌, ◌≢◌, ◌↔◌, ◌<◌, [], true, false, Err, IfErr, IfOk, IsTrue, MatchResult};
 ghost use Rattle.std.specs.Fs.{new_options, with_create_new, with_write};
 ghost use Rattle.permits.specs.declared.pool.TheConstants.{PARTS};
 ghost use Rattle.sqlite.specs.Files.{file_state, over_files, IsOpened};
@@ -9,14 +9,17 @@ ghost use Rattle.sqlite.specs.Start.{FindsIn};
 ghost use Rattle.sqlite.specs.WalFiles.{image_at};
 ghost use Rattle.spool_sql.specs.Steps.{IfClean};
 ghost use Rattle.spool_sql.specs.Tables.{IsOwn, no_schema};
-ghost use Rattle.spool.specs.Adopting.{HaveFirstHistory, HaveHistory};
-ghost use Rattle.spool.specs.Migrating.{MayMigrate};
-ghost use Rattle.desk.specs.Desks.{HasNothingOut};
-ghost use Rattle.recovery.specs.Files.{IsFileOpened, IsFoundOpened, OpensOr, OpensPathOr};
-ghost use Rattle.recovery.specs.Left.{IsCleanAt};
-ghost use Rattle.recovery.specs.Openings.{LeavesOr};
+ghost use Rattle.sound_tables.specs.Keys.{has_first_tables, has_meta};
+ghost use Rattle.spool.specs.Adopting.{FailsIfOfStore, HaveFirstHistory, HaveHistory, IsForeign};
+ghost use Rattle.spool.specs.Migrating.{LeavesMigrated};
+ghost use Rattle.desk.specs.Desks.{HasNothingOut, StandsFor};
+ghost use Rattle.desk.specs.Moves.{opened};
+ghost use Rattle.recovery.specs.Files.{HoldsFirstTables, IsFileOpened, IsFoundOpened, OpensOr, OpensPathOr};
+ghost use Rattle.recovery.specs.Left.{IsCleanAt, VaultStandsFor};
+ghost use Rattle.recovery.specs.Openings.{IsNewStore, LeavesOr};
 ghost use Rattle.recovery.specs.Paths.{ConnectsOr, IsOfLook, IsOfOpen, IsOfPath, IsToldUnfit, unopened_fault};
-ghost use Rattle.recovery.specs.Reopenings.{IsNotMigrated, IsOfReading, IsOfRows, IsReadingRefusal, IsUnopened};
+ghost use Rattle.recovery.specs.Reopenings.{IsNotMigrated, IsOfReading, IsOfRows, IsOpenBehind, IsReadingRefusal};
+ghost use Rattle.recovery.specs.Reopenings.{IsUnopened, ReopensLeft};
 
 use crate::opening::create;
 use crate::reopening::reopen;
@@ -95,6 +98,8 @@ fn open_file<L: Ledger, T: Start>(
     ensures out { IfOk result (λ opening. HasNothingOut opening.0) }
     ensures opened { IfOk result (λ opening. IsCleanAt over_files opening.1.conn
         → IsFileOpened over_files (image_at T.Start) opening.0 opening.1) }
+    ensures whole { is_new ≡ false → IfOk result (λ opening. IsCleanAt over_files opening.1.conn
+        → HoldsFirstTables (image_at T.Start)) }
     ensures refused { OpensOr (image_at T.Start) is_new result }
 {
     let conn = connect(rt, path, is_new, start)?;
@@ -146,6 +151,16 @@ pub fn open<L: Ledger, S: Alter>(
     ensures out { IfOk result (λ opening. HasNothingOut opening.0) }
     ensures opened { IfOk result (λ opening. IsCleanAt S.Store opening.1.conn
         → IsFoundOpened S.Store conn opening.0 opening.1) }
+    ensures ours { has_meta (state S.Store conn).now.schema ≡ false → MatchResult result
+        (λ _. IsNewStore is_new (state S.Store conn).now.schema) (λ back. IsForeign back.1) }
+    ensures foreign { has_meta (state S.Store conn).now.schema ≡ false
+        → ¬ IsNewStore is_new (state S.Store conn).now.schema
+        → IfErr result (λ back. IfClean S.Store conn back.0 (λ _ b. FailsIfOfStore b back.1)) }
+    ensures whole { ¬ IsNewStore is_new (state S.Store conn).now.schema
+        → IfOk result (λ opening. IfClean S.Store conn opening.1.conn
+        (λ a _. IsTrue (has_first_tables a.now.schema))) }
+    ensures reopens { IfOk result (λ opening. IsCleanAt S.Store opening.1.conn
+        → ReopensLeft S.Store conn opening.0 opening.1) }
     ensures refused { IfErr result (λ back. IfClean S.Store conn back.0
         (λ a b. IsOwn a.now.schema → IsUnopened a b back.1)) }
     ensures sound { IfErr result (λ back. IfClean S.Store conn back.0
@@ -154,8 +169,14 @@ pub fn open<L: Ledger, S: Alter>(
         (λ a b. HaveFirstHistory a.now → IsNotMigrated a b back.1)) }
     ensures made { IsTrue is_new → (state S.Store conn).now.schema ≡ no_schema
         → IfErr result (λ back. IsOfReading back.1 × LeavesOr S.Store conn back.0 back.1) }
-    ensures left { is_new ≡ false → MatchResult result (λ opening. IfClean S.Store conn opening.1.conn MayMigrate)
-        (λ back. IfClean S.Store conn back.0 MayMigrate) }
+    ensures desk { IsNewStore is_new (state S.Store conn).now.schema
+        → IfOk result (λ opening. StandsFor opening.0 (opened [] 0)) }
+    ensures vault { IsNewStore is_new (state S.Store conn).now.schema
+        → IfOk result (λ opening. IsCleanAt S.Store opening.1.conn
+        → VaultStandsFor S.Store opening.1 (opened [] 0)) }
+    ensures left { ¬ IsNewStore is_new (state S.Store conn).now.schema
+        → MatchResult result (λ opening. IfClean S.Store conn opening.1.conn IsOpenBehind)
+        (λ back. IfClean S.Store conn back.0 (λ a b. LeavesMigrated a b back.1)) }
     ensures clean { MatchResult result
         (λ opening. IsCleanAt S.Store opening.1.conn → IsCleanAt S.Store conn)
         (λ back. IsCleanAt S.Store back.0 → IsCleanAt S.Store conn) }

@@ -4,7 +4,7 @@ ghost use Rattle.sqlite.specs.Held.{state};
 ghost use Rattle.spool_sql.specs.Steps.{IfClean};
 ghost use Rattle.spool_sql.specs.Tables.{IsOwn};
 ghost use Rattle.sound_tables.specs.Keys.{has_first_tables, has_meta};
-ghost use Rattle.spool.specs.Adopting.{HaveFirstHistory, HaveHistory, IsForeign};
+ghost use Rattle.spool.specs.Adopting.{FailsIfOfStore, HaveFirstHistory, HaveHistory, IsForeign};
 ghost use Rattle.spool.specs.Migrating.{LeavesMigrated};
 ghost use Rattle.desk.specs.Desks.{HasNothingOut};
 ghost use Rattle.recovery.specs.Left.{IsCleanAt};
@@ -38,6 +38,8 @@ pub fn reopen<L: Ledger, S: Alter>(
     ensures out { IfOk result (λ opening. HasNothingOut opening.0) }
     ensures ours { has_meta (state S.Store conn).now.schema ≡ false
         → MatchResult result (λ _. ⊥) (λ back. IsForeign back.1) }
+    ensures foreign { has_meta (state S.Store conn).now.schema ≡ false
+        → IfErr result (λ back. IfClean S.Store conn back.0 (λ _ b. FailsIfOfStore b back.1)) }
     ensures whole { IfOk result (λ opening. IfClean S.Store conn opening.1.conn
         (λ a _. IsTrue (has_first_tables a.now.schema))) }
     ensures opened { IfOk result (λ opening. IfClean S.Store conn opening.1.conn

@@ -1,11 +1,13 @@
 //! `relayd check`: how much the store in a file holds.
 ghost use Rattle.std.specs.Prelude.{◌≡◌, false, Some};
 ghost use Rattle.permits.specs.declared.pool.TheConstants.{PARTS};
+ghost use Rattle.sqlite.specs.Held.{state};
 ghost use Rattle.sqlite.specs.WalFiles.{image_at};
 ghost use Rattle.spool_sql.specs.Steps.{IfClean};
 ghost use Rattle.spool.specs.Migrating.{MayMigrate};
 ghost use Rattle.recovery.specs.Left.{IsCleanAt};
-ghost use Rattle.relay_commands.specs.Checks.{IsCounted, ChecksSo, ChecksTo, ChecksFileTo, counts_text};
+ghost use Rattle.recovery.specs.Openings.{IsNewStore};
+ghost use Rattle.relay_commands.specs.Checks.{IsCountOf, ChecksSo, ChecksTo, ChecksFileTo, counts_text};
 
 use command_interface::{CommandFault, end};
 use desk::Totals;
@@ -82,9 +84,10 @@ pub fn check_store<S: Alter, O: Write, E: Write>(
     errors: &mut E,
 ) -> (Connection<S>, u8)
     requires mode { conn.in_transaction ≡ false }
-    ensures checks { ChecksTo S.Store conn result.0 (O.contents output.old) (O.contents output.new)
+    ensures checks { ChecksTo S.Store is_new conn result.0 (O.contents output.old) (O.contents output.new)
         (E.contents errors.old) (E.contents errors.new) result.1 }
-    ensures left { is_new ≡ false → IfClean S.Store conn result.0 MayMigrate }
+    ensures left { ¬ IsNewStore is_new (state S.Store conn).now.schema
+        → IfClean S.Store conn result.0 MayMigrate }
     ensures clean { IsCleanAt S.Store result.0 → IsCleanAt S.Store conn }
     ensures outside { result.0.in_transaction ≡ false }
 {
@@ -103,8 +106,9 @@ fn count<L: Ledger, S: Alter>(
     requires parts { blank.parts ≡ L.parts }
     requires enough { blank.parts ≡ PARTS }
     requires mode { conn.in_transaction ≡ false }
-    ensures counted { IsCounted S.Store conn result.0 result.1 }
-    ensures left { is_new ≡ false → IfClean S.Store conn result.0 MayMigrate }
+    ensures counted { IsCountOf S.Store is_new conn result.0 result.1 }
+    ensures left { ¬ IsNewStore is_new (state S.Store conn).now.schema
+        → IfClean S.Store conn result.0 MayMigrate }
     ensures clean { IsCleanAt S.Store result.0 → IsCleanAt S.Store conn }
     ensures outside { result.0.in_transaction ≡ false }
 {

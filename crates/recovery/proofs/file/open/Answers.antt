@@ -1,6 +1,6 @@
 use Rattle.std.proofs.Common.{inr}
-use Rattle.recovery.proofs.FileLaws.{may_migrate, of_whole}
-use Rattle.recovery.proofs.ReopeningLaws.{of_both}
+use Rattle.sqlite.specs.Held.{state}
+use Rattle.recovery.proofs.FileLaws.{may_stay, of_none, of_whole}
 use Rattle.recovery.proofs.file.open.Goals as goal
 
 pub returns-in-Ok-clause-opened : goal.returns-in-Ok-clause-opened
@@ -8,7 +8,17 @@ returns-in-Ok-clause-opened g c =
     of_whole _ _ _ c.reopen.result c.reopen.ensures.whole c.reopen.ensures.opened
     (λ opening stand opened new. inr (stand new, opened new))
 
+pub returns-in-Ok-clause-ours : goal.returns-in-Ok-clause-ours
+returns-in-Ok-clause-ours g c none = of_none _ _ c.reopen.result (c.reopen.ensures.ours none)
+
+pub returns-in-Ok-clause-foreign : goal.returns-in-Ok-clause-foreign
+returns-in-Ok-clause-foreign g c none old = c.reopen.ensures.foreign none
+
+pub returns-in-Ok-clause-whole : goal.returns-in-Ok-clause-whole
+returns-in-Ok-clause-whole g c old = c.reopen.ensures.whole
+
 pub returns-in-Ok-clause-left : goal.returns-in-Ok-clause-left
-returns-in-Ok-clause-left g c old = of_both _ _ _ _ _ _ c.reopen.result (λ opening left same new. (left new).0)
-    (λ back left same new. may_migrate _ _ back.1 (left new))
-    c.reopen.ensures.left c.reopen.ensures.clean
+returns-in-Ok-clause-left g c old = c.reopen.ensures.left
+
+pub returns-in-Err-clause-left : goal.returns-in-Err-clause-left
+returns-in-Err-clause-left g c old clean = may_stay (state g.S.Store c.args.conn)

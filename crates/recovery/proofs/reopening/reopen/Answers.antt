@@ -6,6 +6,14 @@ use Rattle.recovery.proofs.ReopeningLaws.{leaves_then, not_migrated, of_migratin
 use Rattle.recovery.proofs.ReopeningLaws.{with_cause}
 use Rattle.recovery.proofs.reopening.reopen.Goals as goal
 
+pub returns-clause-foreign : goal.returns-clause-foreign
+returns-clause-foreign g c none = absurd (c.in_ok-vault.ensures.ours none)
+
+pub returns-in_err-vault-clause-foreign : goal.returns-in_err-vault-clause-foreign
+returns-in_err-vault-clause-foreign g c =
+    let p = err_from_is_err_and c.from_residual.result c.from_residual.ensures.1 in
+    rw (p.1, p.2) (λ none. c.in_err-vault.ensures.foreign none)
+
 pub returns-clause-opened : goal.returns-clause-opened
 returns-clause-opened g c = of_answer _ _ _ _ c.with_desk.result
     (λ opening opens clean new schema. is_reopened g.S.Store (state g.S.Store c.args.conn).now c.in_ok-vault.vault

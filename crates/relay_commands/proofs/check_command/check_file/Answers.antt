@@ -9,7 +9,7 @@ returns-in-Ok-connect g c =
     record {
       checks = (
         told.0,
-        counted_in (image_at g.T.Start) c.in-Ok-connect.conn c.check_store-conn.result.0 told.0
+        counted_in (image_at g.T.Start) c.in-Ok.is_new c.in-Ok-connect.conn c.check_store-conn.result.0 told.0
             c.check_store-conn.ensures.clean c.in-Ok-connect.ensures.opened c.in-Ok-connect.ensures.finds told.1,
         told.2,
       );
