@@ -30,7 +30,7 @@ use Rattle.delivery_book.proofs.Histories.{entry_at-entries}
 use Rattle.delivery_book.proofs.Progresses.{attempts_of-append, empty_if}
 use Rattle.desk.specs.Claims.{with_attempt}
 use Rattle.endpoint_book.proofs.Filters.{some_told}
-use Rattle.desk.specs.declared.job.Post.{Post}
+use Rattle.desk.specs.Claims.{PostValue}
 use Rattle.endpoint_book.specs.Entries as endpoint_entries
 use Rattle.desk.proofs.LeastLaws as least
 use Rattle.desk.specs.declared.refusal.Fault.TheVariants as fault
@@ -674,6 +674,7 @@ pub post_is : (w : World) (at d : ℕ) (row : BookRow) (target body : List ℕ) 
     → Some secrets ≡ secrets_if_known (all_records w) row.endpoint
     → IsPostOf w at d (record {
       endpoint = row.endpoint;
+      delivery = d;
       id = row.id;
       attempt = row.attempts + 1;
       at = at;
@@ -689,6 +690,7 @@ post_is w at d row target body secrets rows bodies targets known =
         → Some body ≡ option_map (λ a. a.body) o
         → IsPostOf w at d (record {
           endpoint = row.endpoint;
+          delivery = d;
           id = row.id;
           attempt = row.attempts + 1;
           at = at;
@@ -711,6 +713,7 @@ post_is w at d row target body secrets rows bodies targets known =
           e,
           λ i. record {
             endpoint = (same i).endpoint;
+            delivery = d;
             id = (same i).id;
             attempt = (same i).attempts + 1;
             at =
@@ -726,7 +729,7 @@ pub stands_started : (d : DeskValue) (w : World) (at : ℕ) (row : Row) → Stan
     → StandsFor (record (with_live d row) { clock = at }) (with_attempt w at row)
 stands_started d w at row h = assumption (ap (λ rows. rows ++ row ∷ []) h.live)
 
-abbrev job_by : Row → Post → JobValue
+abbrev job_by : Row → PostValue → JobValue
 job_by row post = record {
   row = row;
   id = post.id;
@@ -738,7 +741,7 @@ job_by row post = record {
   body = post.body;
 }
 
-pub job_starts : (d new : DeskValue) (at delivery : ℕ) (row : Row) (post : Post)
+pub job_starts : (d new : DeskValue) (at delivery : ℕ) (row : Row) (post : PostValue)
     → ((w : World) → StandsFor d w → IsPostOf w at delivery post) → row ≡ next_row post.endpoint delivery d.live
     → new ≡ record (with_live d row) { clock = at } → Starts d at delivery (job_by row post) new
 job_starts d new at delivery row post posts rows is = λ w h.

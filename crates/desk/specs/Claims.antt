@@ -115,6 +115,30 @@ pub record JobValue : Type 0 where
   pub secrets : List Text
   pub body : Text
 
+-- what a post shows: the endpoint and the event's number, and of a job's values all that is posted
+pub record PostValue : Type 0 where
+  pub endpoint : Text
+  pub delivery : Seq
+  pub id : Text
+  pub attempt : ℕ
+  pub at : Seconds
+  pub target : Text
+  pub secrets : List Text
+  pub body : Text
+
+-- what is posted at the attempt of a job
+abbrev pub post_in : JobValue → PostValue
+post_in job = record {
+  endpoint = job.row.endpoint;
+  delivery = job.row.delivery;
+  id = job.id;
+  attempt = job.attempt;
+  at = job.at;
+  target = job.target;
+  secrets = job.secrets;
+  body = job.body;
+}
+
 abbrev pub target_in : (w : World) (name : Text) → Text
 target_in w name = option_map_or (λ e. e.target) (endpoint_of (all_records w) name) []
 

@@ -11,7 +11,6 @@ use Rattle.relay_types.specs.declared.record.Record.TheVariants.{Purge}
 use Rattle.relay_types.specs.Values.{Text, Seq, Seconds}
 use Rattle.relay_types.specs.Records.{History, Accepted, records_of}
 use Rattle.relay_types.specs.Deliveries.{accepted, is_in_state, is_purged}
-use Rattle.relay_types.specs.Endpoints.{secrets_of}
 use Rattle.relay_types.specs.Judging.{is_gone_status}
 use Rattle.relay_types.specs.Legal.{IsLegal}
 use Rattle.relay_types.specs.Steps.{accepts}
@@ -38,12 +37,11 @@ use Rattle.delivery_book.specs.declared.entry.Entry.{Entry}
 use Rattle.desk.specs.declared.refusal.Refusal.{Refusal}
 use Rattle.desk.specs.Faults.{Faults, first_fault}
 use Rattle.desk.specs.World.{World, Out, all_records, settled_records}
-use Rattle.desk.specs.declared.job.Post.{Post}
 use Rattle.desk.specs.declared.limiter.Limiter.{Limiter}
 use Rattle.desk.specs.declared.limits.TheConstants.{MAX_PENDING}
 use Rattle.desk.specs.declared.ticket.Ticket.{Ticket}
 use Rattle.desk.specs.Moves.{Answer, MayGive, is_nothing_out, sealed_batch, opened, ticket}
-use Rattle.desk.specs.Claims.{JobValue, SpentValue, samples_of, next_attempt, target_in, job_of, with_attempt, has_row}
+use Rattle.desk.specs.Claims.{JobValue, PostValue, SpentValue, samples_of, job_of, post_in, with_attempt, has_row}
 use Rattle.desk.specs.Claims.{with_attempt_over, spent_by}
 use Rattle.desk.specs.Ties.{AreLimiters, AreTied, AreUnderWay, HasRoomForAll, HasSameRooms, KeepsPlaces, StandsAt}
 use Rattle.desk.specs.Ties.{endpoint_at, is_idle, new_limiter, room_by}
@@ -218,20 +216,9 @@ may_start_at desk name d = has_place desk
     && option_map_or (λ e. is_ready desk e && bytes_eq e.name name)
     (delivery_entries.entry_at desk.deliveries.entries d) false
 
--- what is posted at the delivery's next attempt
-abbrev pub post_of : (w : World) (at : Seconds) (delivery : Seq) → Accepted → Post
-post_of w at d a = record {
-  endpoint = a.endpoint;
-  id = a.id;
-  attempt = next_attempt w d;
-  at = at;
-  target = target_in w a.endpoint;
-  secrets = secrets_of (all_records w) a.endpoint;
-  body = a.body;
-}
-
-abbrev pub IsPostOf : (w : World) (at : Seconds) (delivery : Seq) → Post → Type 0
-IsPostOf w at d post = (a : Accepted) × (accepted (all_records w) d ≡ Some a) × (post ≡ post_of w at d a)
+-- From the world: the post is that of the job of an attempt at the delivery.
+abbrev pub IsPostOf : (w : World) (at : Seconds) (delivery : Seq) → PostValue → Type 0
+IsPostOf w at d post = (a : Accepted) × (accepted (all_records w) d ≡ Some a) × (post ≡ post_in (job_of w at d a))
 
 -- the number of the delivery's next attempt, by the book
 abbrev pub attempt_in : delivery_entries.BookValue → (delivery : Seq) → ℕ

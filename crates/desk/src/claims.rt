@@ -83,6 +83,7 @@ impl<L: Ledger> Desk<L> {
     fn post_of(&self, at: Moment, delivery: u64) -> Result<Post, AllocError>
         requires { IsTrue (may_start self.now delivery) }
         ensures endpoint { IfOk result (λ post. IsTrue (may_start_at self.now post.endpoint delivery)) }
+        ensures delivery { IfOk result (λ post. post.delivery ≡ delivery) }
         ensures post { IfOk result (λ post. OverWorlds self.now (λ w. IsPostOf w at delivery post)) }
     {
         let Some(row) = self.deliveries.row(delivery) else {
@@ -99,6 +100,7 @@ impl<L: Ledger> Desk<L> {
         };
         Ok(Post {
             endpoint: row.endpoint,
+            delivery,
             id: row.id,
             attempt: row.attempts + 1,
             at,

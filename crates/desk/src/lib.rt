@@ -22,7 +22,7 @@ mod ticket;
 
 pub use crate::command::Command;
 pub use crate::desk::Desk;
-pub use crate::job::Job;
+pub use crate::job::{Job, Post};
 pub use crate::limits::{MAX_PENDING, MAX_PENDING_ALL};
 pub use crate::pages::{EndpointPage, Totals};
 pub use crate::refusal::{Fault, Refusal};
