@@ -1,7 +1,7 @@
 -- What a round of a worker posted.
 use Rattle.std.specs.Prelude.{◌≡◌}
 use Rattle.retry_table.specs.declared.post.PostResult.{PostResult}
-use Rattle.desk.specs.Claims.{JobValue}
+use Rattle.desk.specs.Claims.{PostValue}
 use Rattle.delivery.specs.declared.worker.Claimed.{Claimed}
 use Rattle.delivery.specs.declared.worker.Claimed.TheVariants as claimed
 use Rattle.delivery.specs.declared.worker.Round.{Round}
@@ -9,21 +9,21 @@ use Rattle.delivery.specs.declared.worker.Round.TheVariants.{Posted, Idle, Halte
 use Rattle.webhook_request.specs.Requests.{Request}
 use Rattle.webhook_request.specs.Requests as webhook
 
--- the request of a job's attempt
-abbrev pub request_of : JobValue → Request
-request_of job = webhook.request_of job.target job.secrets job.id job.at job.body
+-- the request of an attempt
+abbrev pub request_of : PostValue → Request
+request_of post = webhook.request_of post.target post.secrets post.id post.at post.body
 
--- A round that posted sent the request of a job, which it names, was answered what the poster may answer to it, and
--- spent that job's permit by that very result.
+-- A round that posted sent the request of its post, which only a claim makes. It was answered what the poster may
+-- answer to that request, and by that very result the permit of the post's endpoint and event was spent.
 abbrev pub IsPostedBy : (may_answer : Request → PostResult → Type 0) → Round → Type 0
-IsPostedBy may_answer (Posted endpoint attempt request result spent) =
-    (job : JobValue) × (endpoint ≡ job.row.endpoint) × (attempt ≡ job.attempt) × (request ≡ request_of job)
-    × may_answer request result × (spent.row ≡ job.row) × (spent.post ≡ result)
+IsPostedBy may_answer (Posted post request result spent) =
+    (request ≡ request_of post) × may_answer request result × (spent.row.endpoint ≡ post.endpoint)
+    × (spent.row.delivery ≡ post.delivery) × (spent.post ≡ result)
 IsPostedBy may_answer _ = Unit {0}
 
 -- nothing was posted
 abbrev pub HasNotPosted : Round → Type 0
-HasNotPosted (Posted endpoint attempt request result spent) = ⊥
+HasNotPosted (Posted post request result spent) = ⊥
 HasNotPosted _ = Unit {0}
 
 -- a claim without a job ends the round, in which nothing was posted

@@ -5,8 +5,7 @@ ghost use Rattle.delivery.specs.Rounds.{IsPostedBy, request_of};
 use crate::clock::Clock;
 use crate::pass::{Pass, WentBack};
 use crate::shared::Shared;
-use desk::{Job, Spent};
-use relay_types::Name;
+use desk::{Job, Post, Spent};
 use retry_table::PostResult;
 use run_log::LogId;
 use std::alloc::{AllocError, Global};
@@ -17,10 +16,9 @@ use webhook_request::{Outgoing, Poster};
 /// How a round ended.
 #[derive(Drop)]
 pub enum Round {
-    /// The request of this attempt, from 1, was posted to the endpoint, with this result, and its permit was spent.
+    /// What a claim gave was posted as this request, with this result, and the permit of the attempt was spent.
     Posted {
-        endpoint: Name,
-        attempt: u64,
+        post: Post,
         request: Outgoing,
         result: PostResult,
         spent: Spent,
@@ -60,32 +58,31 @@ pub fn worker_round<L: Ledger, I: LogId, P: Poster, C: Clock, R: Wait>(
         Claimed::Job(job) => job,
         Claimed::RoundOver(round) => return round,
     };
-    let Ok(request) = request_of(alloc, &job) else {
-        let _spent = shared.spend(rt, job.into_permit(), &PostResult::Unsent, clock.now());
+    let (permit, post) = job.into_parts();
+    let Ok(request) = request_of(alloc, &post) else {
+        let _spent = shared.spend(rt, permit, &PostResult::Unsent, clock.now());
         return Round::NoMemory;
     };
     let result = poster.post(&request);
-    let (endpoint, attempt) = (job.endpoint(), job.attempt());
-    let spent = shared.spend(rt, job.into_permit(), &result, clock.now());
+    let spent = shared.spend(rt, permit, &result, clock.now());
     Round::Posted {
-        endpoint,
-        attempt,
+        post,
         request,
         result,
         spent,
     }
 }
 
-/// The request of the job's attempt. It shares the event's bytes with the job, and fails only if an allocation fails.
-pub fn request_of<L: Ledger>(alloc: Global, job: &Job<L>) -> Result<Outgoing, AllocError>
-    ensures { IfOk result (λ outgoing. outgoing ≡ request_of job.now) }
+/// The request of the attempt. It shares the event's bytes with the post, and fails only if an allocation fails.
+pub fn request_of(alloc: Global, post: &Post) -> Result<Outgoing, AllocError>
+    ensures { IfOk result (λ outgoing. outgoing ≡ request_of post.now) }
 {
     Outgoing::build(
         alloc,
-        job.target(),
-        &job.secrets(),
-        job.id(),
-        job.moment(),
-        job.body(),
+        post.target(),
+        &post.secrets(),
+        post.id(),
+        post.moment(),
+        post.body(),
     )
 }

@@ -9,7 +9,7 @@ use crate::given::{Given, body_of, target_of};
 use crate::growing::{Attempt, Told, try_twice};
 use crate::growing_replies::reply_told;
 use delivery::{Clock, Pass, Round, Shared, request_of, worker_round};
-use desk::{Command, Desk, Job};
+use desk::{Command, Desk, Post};
 use intake_shed::{Ask, AskBody, Asked, answer, page_reply};
 use permits::{Foreign, PARTS};
 use recovery::{AuditFault, audit};
@@ -216,20 +216,20 @@ impl<L: Ledger, I: LogId, R: Wait> Sharer<'_, '_, L, I, R> {
 
 /// The request of an attempt.
 #[derive(Drop)]
-struct Building<'a, L: Ledger> {
-    job: &'a Job<L>,
+struct Building<'a> {
+    post: &'a Post,
 }
 
-impl<L: Ledger> Attempt for Building<'_, L> {
+impl Attempt for Building<'_> {
     fn attempt(&mut self, rt: &HostRuntime) -> Result<u64, Told> {
-        match request_of(rt.alloc(), self.job) {
+        match request_of(rt.alloc(), self.post) {
             Ok(outgoing) => Ok(u64::from(outgoing.port())),
             Err(_) => Err(Told::NoMemory),
         }
     }
 
     fn state(&self) -> u64 {
-        self.job.attempt()
+        self.post.attempt()
     }
 }
 
@@ -239,7 +239,7 @@ fn build<L: Ledger>(rt: &HostRuntime, desk: &mut Desk<L>, now: Moment) -> io::Re
     let Ok(Some(job)) = desk.claim(now) else {
         return Ok(false);
     };
-    let ended = try_twice(rt, &mut Building { job: &job });
+    let ended = try_twice(rt, &mut Building { post: job.post() });
     match desk.spend(job.into_permit(), PostResult::Unsent, now) {
         Ok(_) => ended,
         Err((_permit, Foreign)) => unreachable!(),

@@ -58,16 +58,15 @@ where
 // Tells of a post that disabled its endpoint, and of one after which its event is given up.
 fn tell_of<R: Clock + AllocGlobal + Eprint>(rt: &R, round: &Round) {
     let Round::Posted {
-        endpoint,
+        post,
         request,
         result: answer,
         spent,
-        ..
     } = round
     else {
         return;
     };
-    let endpoint = *endpoint;
+    let endpoint = post.endpoint();
     if matches!(judge(answer), (_, Some(status)) if is_gone(status)) {
         tell(rt, rt.alloc(), &LogLine::Disabled { endpoint, request });
     }

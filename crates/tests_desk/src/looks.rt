@@ -122,6 +122,7 @@ pub(crate) fn shows<L: Ledger>(alloc: Global, job: &Job<L>, wanted: &Post) -> Re
     Ok(
         job.endpoint().is(name)
             && job.permit().endpoint().is(name)
+            && job.post().delivery() == job.permit().delivery()
             && job.id().is(id)
             && job.target().as_bytes() == wanted.target
             && job.secrets().is(&secrets)

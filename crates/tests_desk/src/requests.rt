@@ -2,9 +2,8 @@
 
 use crate::steps::Request;
 use delivery::request_of;
-use desk::Job;
+use desk::Post;
 use std::alloc::{AllocError, Global};
-use std::sync::ledger::Ledger;
 use std::test::Fail;
 use webhook_request::{Header, Outgoing};
 
@@ -29,9 +28,9 @@ fn lines_of(alloc: Global, outgoing: &Outgoing) -> Result<Vec<u8>, AllocError> {
     Ok(text)
 }
 
-/// Whether this is the request of the job.
-pub(crate) fn asks<L: Ledger>(alloc: Global, job: &Job<L>, wanted: &Request) -> Result<bool, Fail> {
-    let outgoing = request_of(alloc, job)?;
+/// Whether this is the request of the post.
+pub(crate) fn asks(alloc: Global, post: &Post, wanted: &Request) -> Result<bool, Fail> {
+    let outgoing = request_of(alloc, post)?;
     let lines = lines_of(alloc, &outgoing)?;
     Ok(
         lines.as_slice() == wanted.lines

@@ -111,7 +111,7 @@ fn asks_at<L: Ledger>(
     request: &Request,
 ) -> Result<bool, Fail> {
     match jobs.get(place) {
-        Some(job) => asks(alloc, job, request),
+        Some(job) => asks(alloc, job.post(), request),
         None => Ok(false),
     }
 }

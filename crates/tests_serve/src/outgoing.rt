@@ -4,7 +4,7 @@ ghost use Rattle.permits.specs.declared.pool.TheConstants.{PARTS};
 
 use crate::given::{MARK, begin, moment};
 use delivery::request_of;
-use desk::{Desk, Job};
+use desk::Desk;
 use permits::{Foreign, PARTS, Permit};
 use recovery::create;
 use relay_types::Moment;
@@ -33,7 +33,7 @@ fn claimed<L: Ledger, R: Abort>(
     let Ok(Some(job)) = desk.claim(now) else {
         return Err(Fail::from("nothing is due"));
     };
-    let built = request_of(alloc, &job);
+    let built = request_of(alloc, job.post());
     give_back(rt, desk, job.into_permit(), now);
     Ok(built?)
 }
