@@ -1,5 +1,5 @@
 -- What a round of a worker posted.
-use Rattle.std.specs.Prelude.{◌≡◌}
+use Rattle.std.specs.Prelude.{◌≡◌, ◌<◌, ℕ}
 use Rattle.retry_table.specs.declared.post.PostResult.{PostResult}
 use Rattle.desk.specs.Claims.{PostValue}
 use Rattle.delivery.specs.declared.worker.Claimed.{Claimed}
@@ -30,3 +30,13 @@ HasNotPosted _ = Unit {0}
 abbrev pub EndsUnposted : {g : _} → Claimed g → Type 0
 EndsUnposted (claimed.Job job) = Unit {0}
 EndsUnposted (claimed.RoundOver round) = HasNotPosted round
+
+-- A round that went back reports what the pass had seen and the lesser count that it found, and the pass stays.
+abbrev pub Reports : (old new : ℕ) → Round → Type 0
+Reports old new (WentBack told) = (told.seen ≡ old) × (told.found < old) × (new ≡ old)
+Reports old new _ = Unit {0}
+
+-- the same of a claim that ends the round
+abbrev pub ReportsAtEnd : {g : _} → (old new : ℕ) → Claimed g → Type 0
+ReportsAtEnd old new (claimed.Job job) = Unit {0}
+ReportsAtEnd old new (claimed.RoundOver round) = Reports old new round

@@ -1,5 +1,5 @@
 //! What lies under the lock. Each call is one of the desk's, or leaves the desk as it was.
-ghost use Rattle.std.specs.Prelude.{◌≡◌, ◌≢◌, ◌≤◌, ◌<◌, ◌↔◌, ◌∷◌, ◌++◌, [], true, false, length, IsTrue};
+ghost use Rattle.std.specs.Prelude.{◌≡◌, ◌≢◌, ◌≤◌, ◌<◌, ◌↔◌, ◌∷◌, ◌++◌, [], true, false, length, ℕ, IsTrue};
 ghost use Rattle.std.specs.Prelude.{All, Contains, Result, IfOk, IfErr, IsOk, OnErr, OnOk, Option, None, Some};
 ghost use Rattle.std.specs.Prelude.{IfNone, IfSome};
 ghost use Rattle.relay_types.specs.Records.{records_of};
@@ -15,7 +15,7 @@ ghost use Rattle.desk.specs.declared.refusal.Refusal.{Refusal};
 ghost use Rattle.delivery.specs.Logs.{HasChange, HasSettled, IsOfCommand, entry_of, ticket_of, tickets_of};
 ghost use Rattle.delivery.specs.Keepers.{EndsByDesk};
 ghost use Rattle.delivery.specs.declared.committer.CommitterEnd.TheVariants.{Halted};
-ghost use Rattle.delivery.specs.Rounds.{EndsUnposted};
+ghost use Rattle.delivery.specs.Rounds.{EndsUnposted, ReportsAtEnd};
 ghost use Rattle.delivery.specs.Turns.{claimed_by, halted, next_by, refused, round_of, went_back};
 
 use crate::committer::{CommitterEnd, HaltCause, Next};
@@ -232,6 +232,7 @@ impl<L: Ledger, I: LogId> Locked<L, I> {
             → (reply : Result (Option JobValue) Refusal) × (result ≡ claimed_by reply)
             × IsMove self.old.desk (λ w. claim w now) reply self.new.desk }
         ensures nothing { EndsUnposted result }
+        ensures reports { ReportsAtEnd pass.old pass.new result }
         ensures pass { pass.old ≤ pass.new }
         ensures flag { self.new.closing ≡ self.old.closing }
     {
@@ -404,6 +405,7 @@ impl<L: Ledger, I: LogId> Locked<L, I> {
 fn claimed_by<L: Ledger>(claimed: Result<Option<Job<L>>, Refusal>) -> Claimed<L>
     ensures value { result ≡ claimed_by claimed }
     ensures nothing { EndsUnposted result }
+    ensures reports { (seen now : ℕ) → ReportsAtEnd seen now result }
 {
     match claimed {
         Ok(Some(job)) => Claimed::Job(job),

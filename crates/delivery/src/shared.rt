@@ -11,7 +11,7 @@ ghost use Rattle.desk.specs.OwnBooks as kept;
 ghost use Rattle.desk.specs.declared.ticket.Told.TheVariants.{Waiting};
 ghost use Rattle.delivery.specs.Logs.{HasSettled, IsOfCommand};
 ghost use Rattle.delivery.specs.Keepers.{EndsByDesk};
-ghost use Rattle.delivery.specs.Rounds.{EndsUnposted};
+ghost use Rattle.delivery.specs.Rounds.{EndsUnposted, ReportsAtEnd};
 ghost use Rattle.delivery.specs.Sharing.{log_of};
 ghost use Rattle.delivery.specs.declared.committer.CommitterEnd.TheVariants.{Halted};
 
@@ -210,6 +210,7 @@ impl<L: Ledger, I: LogId> Shared<L, I> {
     // Who gets a job wakes the next worker, if another event is pending.
     pub(crate) fn claim<R: Wait>(&self, rt: &R, now: Moment, pass: &mut Pass) -> Claimed<L>
         ensures nothing { EndsUnposted result }
+        ensures reports { ReportsAtEnd pass.old pass.new result }
         ensures pass { pass.old ≤ pass.new }
     {
         let mut locked = self.locked.lock(rt);

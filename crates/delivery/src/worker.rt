@@ -1,6 +1,6 @@
 //! One round of a worker: it claims an attempt, posts it with the lock free, and spends its permit.
 ghost use Rattle.std.specs.Prelude.{◌≡◌, ◌≤◌, IfOk};
-ghost use Rattle.delivery.specs.Rounds.{IsPostedBy, request_of};
+ghost use Rattle.delivery.specs.Rounds.{IsPostedBy, Reports, request_of};
 
 use crate::clock::Clock;
 use crate::pass::{Pass, WentBack};
@@ -52,6 +52,7 @@ pub fn worker_round<L: Ledger, I: LogId, P: Poster, C: Clock, R: Wait>(
     pass: &mut Pass,
 ) -> Round
     ensures posted { IsPostedBy (P.may_answer poster.now) result }
+    ensures reports { Reports pass.old pass.new result }
     ensures pass { pass.old ≤ pass.new }
 {
     let job = match shared.claim(rt, clock.now(), pass) {
