@@ -24,7 +24,7 @@ module _ {K : Type 0} (holds : K → List Record → Type 0) (in_doubt : K → L
   Leaves old new batch (Err (ends.Doubtful doubt reason)) =
       (records : List Record) → holds old records → in_doubt new records (records_of batch.steps)
 
-  -- what stands at the end: the history, and where the store was at fault perhaps the last batch after it
+  -- what is held at the end: the history, and if the store was at fault perhaps other records after it
   abbrev pub Stands : K → List Record → CommitterEnd → Type 0
   Stands new records (Halted (cause.Store error)) = (last : History) × in_doubt new records (records_of last)
   Stands new records _ = holds new records
@@ -35,18 +35,18 @@ module _ {K : Type 0} (next : K → ℕ) where
   Counts old new batch (Ok receipt) = (batch.from ≡ next old) × (next new ≡ next old + length (records_of batch.steps))
   Counts old new batch (Err end) = next new ≡ next old
 
--- the records of batches, one batch after another
+-- the records of these histories, one after another
 abbrev pub records_in : (batches : List History) → List Record
 records_in [] = []
 records_in (steps ∷ batches) = records_of steps ++ records_in batches
 
 module _ {K : Type 0} (holds : K → List Record → Type 0) (in_doubt : K → List Record → List Record → Type 0) where
-  -- Of each history that was held: the steps of whole batches were added, in their order.
+  -- Each history that was held is held at the end, followed by other records or by none.
   abbrev pub Adds : (old new : K) → CommitterEnd → Type 0
   Adds old new end = (records : List Record) → holds old records
       → (batches : List History) × Stands holds in_doubt new (records ++ records_in batches) end
 
--- whole batches were appended to the log
+-- the log is what it was before, followed by other records or by none
 abbrev pub AppendsBatches : (log now : List Record) → Type 0
 AppendsBatches log now = (batches : List History) × (now ≡ log ++ records_in batches)
 

@@ -36,8 +36,8 @@ module _ {S : Type 0} (g : Ghosts S) where
   abbrev pub LeavesDoubt : VaultValue S → List Record → List Record → Type 0
   LeavesDoubt v records more = RestsInDoubt (state g v.conn) records more
 
-  -- Of each history that the vault held, it has the rows, with those of whole batches after them, in their order, and
-  -- a stop leaves these; where the store was at fault it leaves these, or these and the last batch.
+  -- Of each history that the vault held, it has the rows, followed by those of other records or of none, and a crash
+  -- leaves these. If the store was at fault, a crash leaves these, or these and other records after them.
   abbrev pub AddsBatches : (old new : VaultValue S) → CommitterEnd → Type 0
   AddsBatches old new end = (records : List Record) → HoldsOnDisk g old records
       → (batches : List History) × Stands HasRows LeavesDoubt new (records ++ records_in batches) end
@@ -46,9 +46,9 @@ module _ {S : Type 0} (g : Ghosts S) where
   abbrev pub KeepsHistory : (old new : VaultValue S) → Result Served ServeFault → Type 0
   KeepsHistory old new ended = IfClean g old.conn new.conn (λ _ _. AddsBatches old new (committer_end ended))
 
-  -- If the vault held these records, it has the rows of them and of whole batches after them, and a crash now leaves
-  -- these. The event is one of these records: at its number, with its endpoint, its id and its body. If the store was
-  -- at fault, a crash leaves these, or these and one batch more.
+  -- If the vault held these records, it has the rows of them, followed by those of other records or of none, and a
+  -- crash now leaves these. The event is one of all these records: at its number, with its endpoint, its id and its
+  -- body. If the store was at fault, a crash leaves these, or these and other records after them.
   abbrev pub AddsEvent : (old new : VaultValue S) → CommitterEnd → Option EventValue → List Record → Type 0
   AddsEvent old new end acknowledged records = HoldsOnDisk g old records → (batches : List History)
       × Stands HasRows LeavesDoubt new (records ++ records_in batches) end
