@@ -1,4 +1,4 @@
--- Whatever a stop may leave, each event with an attempt that has no outcome there is pending there.
+-- In whatever survives a crash, each event with an attempt that has no outcome there is pending.
 use Rattle.std.proofs.Common.{◌≡◌, ◌≤◌, ◌<◌, ◌+◌, ◌==◌, ◌&&◌, ◌⊎◌, ℕ, Bool, true, false, List, [], ◌∷◌, ◌++◌, length}
 use Rattle.std.proofs.Common.{take, drop, get_or, Option, Some, None, Result, Ok, Err, inl, inr, refl, sym, ap, subst}
 use Rattle.std.proofs.Common.{◌∙◌, arith, length-append, append-nil, cond, nat_eq}
@@ -38,21 +38,21 @@ use Rattle.drill.specs.declared.events.Event.{Event}
 use Rattle.drill.specs.declared.events.Event.TheVariants as on
 use Rattle.drill.specs.declared.events.Reply.{Reply}
 use Rattle.drill.specs.Cores.{is_commit}
-use Rattle.drill.specs.Events.{Makes, Runs}
+use Rattle.drill.specs.Events.{EventMove, EventRun}
 use Rattle.drill.specs.Moves.{Session, permit_of}
-use Rattle.drill.specs.Runs.{Move}
-use Rattle.drill.specs.Unrecorded.{ArePendingAgain, IsEachPendingAgain, IsPendingAgain, records_behind, unrecorded}
+use Rattle.drill.specs.Runs.{CallMove}
+use Rattle.drill.specs.Unrecorded.{ArePendingAgain, IsEachPendingAgain, IsPendingAgain, records_after, unrecorded}
 use Rattle.drill.specs.Worlds.{AreAttemptsPendingAgain, IsOpening, session_of}
-use Rattle.drill.proofs.CoreLaws.{Goes, IsClaimed, Stages, later, same_first, waits_so}
+use Rattle.drill.proofs.CoreLaws.{Goes, IsClaimed, Stages, later, same_first, waiting_is_pending}
 use Rattle.drill.proofs.FollowLaws.{by_call, commits_follow, follows_each, sealed_within}
-use Rattle.drill.proofs.TurnLaws.{flatten_both, front_is, split_at}
+use Rattle.drill.proofs.BatchLaws.{flatten_both, prefix_and_batch, split_at}
 use Rattle.drill.proofs.VaultLaws.{each_left, leaves_goes, leaves_settled, left_on_halt}
 
 -- how many outcomes of the delivery the records have
 abbrev outcomes : List Record → ℕ → ℕ
 outcomes records d = length (attempts_of records d)
 
--- Steps in front, and those after them
+-- The first steps, and those after them
 
 more_outcomes : (some more : List Record) (d : ℕ) → outcomes (some ++ more) d ≡ outcomes some d + outcomes more d
 more_outcomes some more d = ap length (attempts_of-append some more d) ∙ length-append (attempts_of some d)
@@ -62,15 +62,15 @@ more_outcomes some more d = ap length (attempts_of-append some more d) ∙ lengt
 abbrev between : (history : History) (from to : ℕ) → History
 between history from to = drop from (take to history)
 
-behind_is : (history : History) (from to : ℕ) → from ≤ to → to ≤ length history
+records_after_split : (history : History) (from to : ℕ) → from ≤ to → to ≤ length history
     → records_of (drop from history) ≡ records_of (between history from to) ++ records_of (drop to history)
-behind_is history from to below within =
+records_after_split history from to below within =
     ap (λ (h : History). records_of (drop from h)) (sym (take-append-drop to history))
     ∙ ap records_of (drop-append-le from (take to history) (drop to history)
     (omega (arith, below, within, length-take to history)))
     ∙ flatten_both (between history from to) (drop to history)
 
--- what is pending stays so where none of the further records is an outcome of it
+-- what is pending stays so if none of the further records is an outcome of it
 still_pending : (some more : List Record) (d : ℕ) → is_pending some d ≡ true → outcomes more d ≡ 0
     → is_pending (some ++ more) d ≡ true
 still_pending some more d pending none =
@@ -90,8 +90,8 @@ still_pending some more d pending none =
 
 -- Marks
 
--- The marks stand in their order, and at most one attempt at each event has no settled outcome: such an event is
--- pending in the settled records.
+-- The marks are in their order, and at most one attempt at each event has no settled outcome: such
+-- an event is pending in the settled records.
 pub record IsTracked (w : World) : Type 0 where
   pub below : w.settled ≤ w.sealed
   pub within : w.sealed ≤ length w.history
@@ -101,10 +101,10 @@ pub record IsTracked (w : World) : Type 0 where
 
 counted : (w : World) (steps d : ℕ) → w.settled ≤ steps → steps ≤ length w.history
     → unrecorded w w.settled d ≡ attempts_at d w.live + (outcomes (records_of (between w.history w.settled steps)) d
-    + outcomes (records_behind w steps) d)
+    + outcomes (records_after w steps) d)
 counted w steps d below within = ap (λ n. attempts_at d w.live + n)
-    (ap (λ records. outcomes records d) (behind_is w.history w.settled steps below within)
-    ∙ more_outcomes (records_of (between w.history w.settled steps)) (records_behind w steps) d)
+    (ap (λ records. outcomes records d) (records_after_split w.history w.settled steps below within)
+    ∙ more_outcomes (records_of (between w.history w.settled steps)) (records_after w steps) d)
 
 -- the same of the first steps that reach as far as what is settled
 pending_at : (w : World) (steps d : ℕ) → IsTracked w → w.settled ≤ steps → steps ≤ length w.history
@@ -112,14 +112,14 @@ pending_at : (w : World) (steps d : ℕ) → IsTracked w → w.settled ≤ steps
 pending_at w steps d h below within some = record {
   pending = front;
   same = accepted_is (records_of_first w steps) d (unpurged_if (records_of_first w steps) d there)
-      ∙ sym (accepted-before (records_of_first w steps) (records_behind w steps) d
+      ∙ sym (accepted-before (records_of_first w steps) (records_after w steps) d
       (below_if_accepted (records_of_first w steps) d (there_if (records_of_first w steps) d there)))
       ∙ ap (λ records. accept_at records d) (split_at steps w.history);
   once = omega (arith, counted w steps d below within, h.once d, some);
 }
   where
     front : is_pending (records_of_first w steps) d ≡ true
-    front = ap (λ records. is_pending records d) (sym (front_is w.history w.settled steps below))
+    front = ap (λ records. is_pending records d) (sym (prefix_and_batch w.history w.settled steps below))
         ∙ still_pending (settled_records w) (records_of (between w.history w.settled steps)) d
         (h.pending d (omega (arith, counted w steps d below within, some)))
         (omega (arith, counted w steps d below within, h.once d, some))
@@ -134,8 +134,8 @@ pending_again w h = each_left (IsEachPendingAgain w) w w.out h.leaves
 
 -- Moves
 
--- with these rows and these further records no more attempts at the event are without an outcome, or it has its first
--- one and is pending
+-- with these rows and these further records no more attempts at the event are without an outcome,
+-- or it has its first one and is pending
 abbrev MayChange : World → List Row → List Record → ℕ → Type 0
 MayChange w live more d =
     (attempts_at d live + outcomes more d ≤ attempts_at d w.live)
@@ -200,7 +200,7 @@ tracked_begins w at row h waiting =
     first : (d : ℕ) → waits w d ≡ true → (attempts_at d w.live + outcomes (waiting_records w) d ≡ 0)
         × (is_pending (settled_records w) d ≡ true)
     first d is =
-        let (pending, none, free) = waits_so w d is in (
+        let (pending, none, free) = waiting_is_pending w d is in (
           omega (
             arith,
             eqb-true (outcomes (waiting_records w) d) 0 none,
@@ -315,7 +315,7 @@ tracked_settles w h e = record {
 }
 
 desk_tracked : (s next : Session) (event : line.Call) (told : line_reply.Reply) → IsTracked s.world
-    → is_commit event ≡ false → Move s event told next → IsTracked next.world
+    → is_commit event ≡ false → CallMove s event told next → IsTracked next.world
 desk_tracked s next event told h own move = follows_each IsTracked s next event told own (record {
   stays = h;
   stages = λ other staged. tracked_stages s.world other h staged;
@@ -348,14 +348,14 @@ desk_tracked s next event told h own move = follows_each IsTracked s next event 
 }) move
 
 pub line_tracked : (s next : Session) (event : line.Call) (told : line_reply.Reply) → IsTracked s.world
-    → Move s event told next → IsTracked next.world
+    → CallMove s event told next → IsTracked next.world
 line_tracked s next event told h move = by_call IsTracked s next event told
     (λ own. desk_tracked s next event told h own move)
     (commits_follow IsTracked s next told s.world.out refl h
     (λ e. record { below = h.below; within = h.within; leaves = refl; once = h.once; pending = h.pending })
     (λ e. record { below = h.below; within = h.within; leaves = refl; once = h.once; pending = h.pending })) move
 
-event_tracked : (s next : Session) (event : Event) (told : Reply) → IsTracked s.world → Makes s event told next
+event_tracked : (s next : Session) (event : Event) (told : Reply) → IsTracked s.world → EventMove s event told next
     → IsTracked next.world
 event_tracked s next (on.Line event) told h (line, is, move) = line_tracked s next event line h move
 event_tracked s next (on.Look asked) told h (is, same) = subst (λ (t : Session). IsTracked t.world) (sym same) h
@@ -363,7 +363,7 @@ event_tracked s next (on.Look asked) told h (is, same) = subst (λ (t : Session)
 -- Runs
 
 pub run_tracked : (s : Session) (events : List Event) (replies : List Reply) (last : Session) (n : ℕ)
-    → IsTracked s.world → Runs s events replies last n → IsTracked last.world
+    → IsTracked s.world → EventRun s events replies last n → IsTracked last.world
 run_tracked s [] [] last n h (same, none) = subst (λ (t : Session). IsTracked t.world) (sym same) h
 run_tracked s (event ∷ events) (told ∷ replies) last n h (next, later, makes, run, is) = run_tracked next events replies
     last later (event_tracked s next event told h makes) run

@@ -28,13 +28,13 @@ use Rattle.desk.specs.Desks.{DeskValue, StandsFor}
 use Rattle.drill.specs.declared.held.Held.{Held}
 use Rattle.drill.specs.declared.held.Held.TheVariants as held
 use Rattle.drill.specs.declared.calls.Core.{Core}
-use Rattle.drill.specs.Moves.{Session, MayTell, commits, with_receipt, in_doubt}
+use Rattle.drill.specs.Moves.{Session, MayReply, commits, with_receipt, in_doubt}
 use Rattle.drill.specs.Cores.{HoldsAll, HoldsOut, IsHeld, IsOfBatch, CoreStandsFor, IsCore}
-use Rattle.drill.specs.Runners.{Answers, EndsAs, CommitsSo, unchanged_reply}
+use Rattle.drill.specs.Runners.{Answers, EndsCommit, CommitsNext, unchanged_reply}
 use Rattle.recovery.specs.Left.{IsOpenAt, AreOfSteps, HoldsLeft, LeavesBy, VaultStandsFor, KeepsRows, rows_of_first}
-use Rattle.drill.proofs.TurnLaws.{sealed_is, sealed_front}
+use Rattle.drill.proofs.BatchLaws.{settled_and_batch, sealed_is_prefix}
 
--- the desk stands for the world in which something else is out
+-- the desk represents the world in which something else is out
 out_again : (desk : DeskValue) (w : World) (o : Out) (left : List ℕ) → StandsFor desk w
     → is_nothing_out w.out ≡ is_nothing_out o → StandsFor desk (record w { out = o; left = left })
 out_again desk w o left s same = record {
@@ -52,7 +52,8 @@ out_again desk w o left s same = record {
   limits = s.limits;
 }
 
--- the rows of the old history or of the longer one are those of the settled steps or of the sealed ones
+-- the rows of the old history or of the longer one are those of the settled steps or of the sealed
+-- ones
 doubt_leaves : {S : Type 0} (g : Ghosts S) (vault : VaultValue S) (batch : BatchValue) (w : World)
     → settled_records w ++ records_of batch.steps ≡ sealed_records w
     → RestsInDoubt (store.state g vault.conn) (settled_records w) (records_of batch.steps)
@@ -118,25 +119,26 @@ core_kept old new batch core was of same = subst IsCore (sym same) (∥∥₁_ma
     at (held.Receipt receipt) is e = e ∙ ap (λ b. Some b) (sym is)
     at (held.Doubt doubt) is e = ap (option_map doubt_of) e ∙ ap (λ d. Some d) (sym is)
 
--- what it leaves of the store, and what is told
+-- what it leaves of the store, and the reply
 ends_commit : {S : Type 0} (g : Ghosts S) (vault : VaultValue S) (mark : ℕ) (batch : BatchValue) (now : Held)
     (reply : Reply) (s : Session) → s.world.settled ≤ s.world.sealed
     → (s.world.out ≡ Batch) × (batch ≡ sealed_batch mark s.world) → LeavesBy s.world.out s.world
-    → EndsAs g vault (settled_records s.world) batch now reply
-    → MayTell (commits s s.world.out) reply (record s { world = world_by now s.world })
+    → EndsCommit g vault (settled_records s.world) batch now reply
+    → MayReply (commits s s.world.out) reply (record s { world = world_by now s.world })
     × VaultStandsFor g vault (world_by now s.world)
 ends_commit g vault mark batch (held.Receipt receipt) reply s below had leaves h =
     let whole : settled_records s.world ++ records_of batch.steps ≡ sealed_records s.world =
-    ap (λ (r : BatchValue). settled_records s.world ++ records_of r.steps) had.1 ∙ sealed_is mark s.world below in
+    ap (λ (r : BatchValue). settled_records s.world ++ records_of r.steps) had.1 ∙ settled_and_batch mark s.world below
+    in
     let open_at : IsOpenAt g vault (sealed_records s.world) = subst (IsOpenAt g vault) whole h.2 in
     let (free, (holds, stop)) = open_at in
     let said : reply ≡ says.Committed (length (sealed_records s.world)) = h.1 ∙ ap says.Committed holds.next in (
-      subst (λ o. MayTell (commits s o) reply (record s { world = with_receipt s.world })) (sym had.0)
+      subst (λ o. MayReply (commits s o) reply (record s { world = with_receipt s.world })) (sym had.0)
           (inl (said, refl)),
       record { leaves = refl; holds = open_at },
     )
 ends_commit g vault mark batch (held.Batch back) reply s below had leaves h = (
-  subst (λ o. MayTell (commits s o) reply s) (sym had.0) (inr (inl (h.1, refl))),
+  subst (λ o. MayReply (commits s o) reply s) (sym had.0) (inr (inl (h.1, refl))),
   record {
     leaves = leaves;
     holds = subst (HoldsLeft g vault s.world)
@@ -145,8 +147,9 @@ ends_commit g vault mark batch (held.Batch back) reply s below had leaves h = (
 )
 ends_commit g vault mark batch (held.Doubt doubt) reply s below had leaves (is, said, shut, may) =
     let whole : settled_records s.world ++ records_of batch.steps ≡ sealed_records s.world =
-    ap (λ (r : BatchValue). settled_records s.world ++ records_of r.steps) had.1 ∙ sealed_is mark s.world below in (
-      subst (λ o. MayTell (commits s o) reply (record s { world = in_doubt s.world })) (sym had.0)
+    ap (λ (r : BatchValue). settled_records s.world ++ records_of r.steps) had.1 ∙ settled_and_batch mark s.world below
+    in (
+      subst (λ o. MayReply (commits s o) reply (record s { world = in_doubt s.world })) (sym had.0)
           (inr (inr (inl (said, refl)))),
       record { leaves = refl; holds = (shut, doubt_leaves g vault batch s.world whole may, may.stands) },
     )
@@ -160,7 +163,7 @@ pub unchanged_ends : {S : Type 0} (g : Ghosts S) (old new : VaultValue S) (batch
     → (result ≡ Err (ends.Unchanged batch why.Illegal) → IsIllegal g old batch)
     → (IsTrue new.closed → IsTrue old.closed ⊎ IsDoubt result) → LeavesHistory g old new batch result
     → (records : List Record) → IsOpenAt g old records → IsNext old batch → IsLegal (records ++ records_of batch.steps)
-    → EndsAs g new records batch (held.Batch back) (unchanged_reply reason)
+    → EndsCommit g new records batch (held.Batch back) (unchanged_reply reason)
 unchanged_ends g old new batch back why.Closed result is same closed turn illegal doubt over records open_at next
     legal =
     absurd (let shut : old.closed ≡ true = closed (is ∙ ap (λ b. Err (ends.Unchanged b why.Closed)) same)
@@ -186,7 +189,7 @@ unchanged_ends g old new batch back why.OutOfMemory result is same closed turn i
 
 pub answers_commit : {L S : Type 0} (g : Ghosts S) (old new : Core L) (vault later : VaultValue S) (batch : BatchValue)
     (reply : Reply) → held.Batch batch ≡ old.held → new ≡ record old { held = new.held }
-    → IsOfBatch batch new.held → later.mark ≡ vault.mark → CommitsSo g vault later batch new.held reply
+    → IsOfBatch batch new.held → later.mark ≡ vault.mark → CommitsNext g vault later batch new.held reply
     → Answers g old vault (λ s. commits s s.world.out) reply new later
 answers_commit g old new vault later batch reply was same of mark commit s on =
     let w = s.world in
@@ -199,9 +202,10 @@ answers_commit g old new vault later batch reply was same of mark commit s on =
     (ap (λ (r : BatchValue). r.mark) had.1 ∙ on.mark, ap (λ (r : BatchValue). r.from) had.1 ∙ sym holds.next) in
     let below = on.stands.desk.waiting.settled_first in
     let whole : settled_records w ++ records_of batch.steps ≡ sealed_records w =
-    ap (λ (r : BatchValue). settled_records w ++ records_of r.steps) had.1 ∙ sealed_is old.desk.waiting.mark w below in
+    ap (λ (r : BatchValue). settled_records w ++ records_of r.steps) had.1
+    ∙ settled_and_batch old.desk.waiting.mark w below in
     let legal : IsLegal (sealed_records w) = legal_front (sealed_records w) _
-    (subst IsLegal (sym (sealed_front w)) on.stands.desk.books.legal) in
+    (subst IsLegal (sym (sealed_is_prefix w)) on.stands.desk.books.legal) in
     let ends = commit (settled_records w) open_at next (subst IsLegal (sym whole) legal) in
     let after = ends_commit g later old.desk.waiting.mark batch new.held reply s below had on.holds.leaves ends in (
       record s { world = world_by new.held w },

@@ -1,4 +1,5 @@
--- What calls of the desk make of a core and its session: looks, steps that are staged, and attempts.
+-- What calls of the desk make of a core and its session: looks, steps that are staged, and
+-- attempts.
 use Rattle.std.proofs.Common.{◌≡◌, ◌≤◌, ◌<◌, ◌+◌, ◌==◌, ℕ, Bool, true, false, not, ◌&&◌, cond, List, [], ◌∷◌, ◌++◌}
 use Rattle.std.proofs.Common.{length, take, drop, get_or, Option, Some, None, Result, Ok, Err, inl, inr, ⊎_elim, refl}
 use Rattle.std.proofs.Common.{sym, ap, subst, ◌∙◌, arith, append-nil, nat_eq, nat_lt}
@@ -53,13 +54,14 @@ use Rattle.desk.proofs.RowLaws.{attempts_at, others, none_counted, none_found, r
 use Rattle.drill.specs.declared.calls.Core.{Core}
 use Rattle.drill.specs.declared.held.Held.{Held}
 use Rattle.drill.specs.declared.held.Held.TheVariants as held
-use Rattle.drill.specs.declared.tickets.Given.{Given}
-use Rattle.drill.specs.declared.tickets.Given.TheVariants.{Submission}
-use Rattle.drill.specs.Tickets.{Keeps}
-use Rattle.drill.specs.Moves.{Session, MayTell, IsOneOf, stays, lacks, tells, stages, staged_reply, refusal_reply}
+use Rattle.drill.specs.declared.tickets.AnyTicket.{AnyTicket}
+use Rattle.drill.specs.declared.tickets.AnyTicket.TheVariants.{Submission}
+use Rattle.drill.specs.Tickets.{KeepsTickets}
+use Rattle.drill.specs.Moves.{Session, MayReply, IsOneOf, stays, lacks, tells, stages, staged_reply, refusal_reply}
 use Rattle.drill.specs.Moves.{with_ticket, gives, published_reply, publishes, with_tickets, claim_reply, spent_reply}
 use Rattle.drill.specs.Moves.{spends, permit_of}
-use Rattle.drill.specs.Cores.{IsHeld, AreOnce, CoreStandsFor, HoldsAll, HoldsOut, IsCore, CoreAnswers, KeepsAll}
+use Rattle.drill.specs.Cores.{IsHeld, AreOnePerDelivery, CoreStandsFor, HoldsAll, HoldsOut, IsCore, CoreAnswers}
+use Rattle.drill.specs.Cores.{OnlyMakesRoom}
 
 -- Worlds after which what is out, settled and sealed is as before
 
@@ -113,8 +115,8 @@ later w clock = record {
   none = λ d. refl;
 }
 
-pub stays_so : (w : World) → Stages w w
-stays_so w = later w w.clock
+pub stages_nothing : (w : World) → Stages w w
+stages_nothing w = later w w.clock
 
 goes_unless : {A : Type 0} (faults : Faults) (w : World) (answer : desk.Answer A) → Stages w answer.next
     → Stages w (unless faults w answer).next
@@ -123,7 +125,7 @@ goes_unless {A} ((there, number, why) ∷ rest) w answer h = at there (goes_unle
   where
     at : (b : Bool) → Stages w (unless rest w answer).next
         → Stages w (if b then refused {A = A} w number why else unless rest w answer).next
-    at true h = stays_so w
+    at true h = stages_nothing w
     at false h = h
 
 pub goes_submit : (w : World) (now : ℕ) (name id body : List ℕ) → Stages w (submit w now name id body).next
@@ -245,9 +247,9 @@ goes_given : {A : Type 0} (w : World) (answer : desk.Answer A) (result : Result 
     → Stages w answer.next → MayGive w answer result next → Stages w next
 goes_given w answer result next plain (inl given) = subst (Stages w) (sym given.1) plain
 goes_given w answer result next plain (inr lacks) = subst (Stages w)
-    (sym (lacks_stays answer.memory result w next lacks)) (stays_so w)
+    (sym (lacks_stays answer.memory result w next lacks)) (stages_nothing w)
 
--- What stands for a world stands for one that goes on so
+-- What represents a world represents one that goes on so
 
 pub same_first : (w next : World) (k : ℕ) → Goes w next → k ≤ length w.history
     → records_of (take k w.history) ≡ records_of (take k next.history)
@@ -270,9 +272,9 @@ held_goes mark w next (held.Receipt batch) g below within h = (g.out ∙ h.0, h.
 held_goes mark w next (held.Doubt doubt) g below within h =
     (g.out ∙ h.0, h.1 ∙ ap doubt_of (batch_goes mark w next g below within))
 
-core_goes : {L : Type 0} (old new : Core L) (s : Session) (next : World) (given : List Given) → CoreStandsFor old s
+core_goes : {L : Type 0} (old new : Core L) (s : Session) (next : World) (given : List AnyTicket) → CoreStandsFor old s
     → Goes s.world next → StandsFor new.desk next → new.desk.waiting.mark ≡ old.desk.waiting.mark
-    → new.held ≡ old.held → new.permits.items ≡ next.live → AreOnce next.live → Keeps new.tickets given
+    → new.held ≡ old.held → new.permits.items ≡ next.live → AreOnePerDelivery next.live → KeepsTickets new.tickets given
     → CoreStandsFor new (record { world = next; tickets = given })
 core_goes old new s next given on goes desk mark same permits once keeps = record {
   desk = desk;
@@ -285,10 +287,10 @@ core_goes old new s next given on goes desk mark same permits once keeps = recor
   tickets = keeps;
 }
 
--- Where nothing is handed out or taken back, all that is out is held as before.
-pub holds_so : {L : Type 0} (old new : Core L) → KeepsOut old.desk new.desk → new.held ≡ old.held
+-- If nothing is handed out or taken back, all that is out is held as before.
+pub still_holds_all : {L : Type 0} (old new : Core L) → KeepsOut old.desk new.desk → new.held ≡ old.held
     → new.permits.items ≡ old.permits.items → IsCore old → IsCore new
-holds_so old new (live, out) same permits core = ∥∥₁_map core (λ (h : HoldsAll old). record {
+still_holds_all old new (live, out) same permits core = ∥∥₁_map core (λ (h : HoldsAll old). record {
   permits = permits ∙ h.permits ∙ sym live;
   out = subst (HoldsOut (batch_out new.desk.waiting)) (sym same) (subst (λ o. HoldsOut o old.held) (sym out) h.out);
 })
@@ -296,15 +298,16 @@ holds_so old new (live, out) same permits core = ∥∥₁_map core (λ (h : Hol
 -- Steps that are staged
 
 -- a refusal prints its number and its name, and keeps no ticket
-abbrev Refuses : {A : Type 0} → (told : Result A Refusal → Reply) (kept : Result A Refusal → List Given → List Given)
+abbrev Refuses : {A : Type 0} → (told : Result A Refusal → Reply) (kept : Result A Refusal → List AnyTicket
+    → List AnyTicket)
     → Type 0
 Refuses told kept = (why : Refusal) → (told (Err why) ≡ refusal_reply why)
-    × ((tickets : List Given) → kept (Err why) tickets ≡ tickets)
+    × ((tickets : List AnyTicket) → kept (Err why) tickets ≡ tickets)
 
-may_give : {A : Type 0} (told : Result A Refusal → Reply) (kept : Result A Refusal → List Given → List Given)
+may_give : {A : Type 0} (told : Result A Refusal → Reply) (kept : Result A Refusal → List AnyTicket → List AnyTicket)
     (s : Session) (answer : desk.Answer A) (result : Result A Refusal) (next : World)
     → Refuses told kept → MayGive s.world answer result next
-    → MayTell (gives told kept s answer) (told result) (record { world = next; tickets = kept result s.tickets })
+    → MayReply (gives told kept s answer) (told result) (record { world = next; tickets = kept result s.tickets })
 may_give told kept s answer result next refuses (inl (e, f)) =
     inl (ap told e, λ i. record { world = f i; tickets = kept (e i) s.tickets })
 may_give told kept s answer result next refuses (inr without) = inr (at answer.memory without)
@@ -322,33 +325,34 @@ may_give told kept s answer result next refuses (inr without) = inr (at answer.m
         )
 
 answers_given : {L A : Type 0} (old new : Core L) (told : Result A Refusal → Reply) (kept : Result A Refusal
-    → List Given → List Given) (move : World → desk.Answer A)
+    → List AnyTicket → List AnyTicket) (move : World → desk.Answer A)
     (result : Result A Refusal) (reply : Reply) → Refuses told kept → ((w : World) → Stages w (move w).next)
     → IsMove old.desk move result new.desk → new.desk.waiting.mark ≡ old.desk.waiting.mark → KeepsOut old.desk new.desk
     → new.held ≡ old.held → new.permits.items ≡ old.permits.items
-    → ((s : Session) → CoreStandsFor old s → (reply ≡ told result) × Keeps new.tickets (kept result s.tickets))
+    → ((s : Session) → CoreStandsFor old s → (reply ≡ told result) × KeepsTickets new.tickets (kept result s.tickets))
     → CoreAnswers old (λ s. gives told kept s (move s.world)) reply new
 answers_given old new told kept move result reply refuses plain moved mark out same permits keeps = record {
   mark = mark;
-  keeps = holds_so old new out same permits;
+  keeps = still_holds_all old new out same permits;
   moves = λ s on.
       let made = moved s.world on.desk in
       let goes = goes_given s.world (move s.world) result made.0 (plain s.world) made.1 in
       let next : Session = record { world = made.0; tickets = kept result s.tickets } in
       let is = keeps s on in (
         next,
-        subst (λ r. MayTell (gives told kept s (move s.world)) r next) (sym is.0)
+        subst (λ r. MayReply (gives told kept s (move s.world)) r next) (sym is.0)
             (may_give told kept s (move s.world) result made.0 refuses made.1),
         core_goes old new s made.0 (kept result s.tickets) on goes.goes made.2 mark same (permits ∙ on.permits
-            ∙ sym goes.live) (subst AreOnce (sym goes.live) on.once) is.1,
+            ∙ sym goes.live) (subst AreOnePerDelivery (sym goes.live) on.once) is.1,
       );
 }
 
-pub answers_staged : {L A : Type 0} (old new : Core L) (of : A → Given) (move : World → desk.Answer A)
+pub answers_staged : {L A : Type 0} (old new : Core L) (of : A → AnyTicket) (move : World → desk.Answer A)
     (result : Result A Refusal) → ((w : World) → Stages w (move w).next)
     → IsMove old.desk move result new.desk → new.desk.waiting.mark ≡ old.desk.waiting.mark → KeepsOut old.desk new.desk
     → new.held ≡ old.held → new.permits.items ≡ old.permits.items
-    → ((given : List Given) → Keeps old.tickets given → Keeps new.tickets (with_ticket of result given))
+    → ((given : List AnyTicket) → KeepsTickets old.tickets given
+    → KeepsTickets new.tickets (with_ticket of result given))
     → CoreAnswers old (λ s. stages of s (move s.world)) (staged_reply of result) new
 answers_staged old new of move result plain moved mark out same permits keeps =
     answers_given old new (staged_reply of) (with_ticket of) move result (staged_reply of result)
@@ -366,15 +370,16 @@ answers_unpublished old new now topic id body why moved mark out same permits ti
     answers_given old new published_reply with_tickets (λ w. publish w now topic id body) (Err why) (refusal_reply why)
     (λ why. (refl, λ tickets. refl))
     (λ w. goes_publish w now topic id body) moved mark out same permits
-    (λ s on. (refl, subst (λ t. Keeps t s.tickets) (sym tickets) on.tickets))
+    (λ s on. (refl, subst (λ t. KeepsTickets t s.tickets) (sym tickets) on.tickets))
 
--- its first tickets are kept and told, as many as there may be: that is all of them
+-- its first tickets are kept and replied, as many as there may be: that is all of them
 pub answers_published : {L : Type 0} (old new : Core L) (now : ℕ) (topic id body : List ℕ) (tickets few : List Ticket)
     → IsMove old.desk (λ w. publish w now topic id body) (Ok tickets) new.desk → new.desk.waiting.mark
     ≡ old.desk.waiting.mark
     → KeepsOut old.desk new.desk → new.held ≡ old.held → new.permits.items ≡ old.permits.items
     → few ≡ take MAX_ENDPOINTS tickets
-    → ((given : List Given) → Keeps old.tickets given → Keeps new.tickets (reverse (map Submission few) ++ given))
+    → ((given : List AnyTicket) → KeepsTickets old.tickets given
+    → KeepsTickets new.tickets (reverse (map Submission few) ++ given))
     → CoreAnswers old (λ s. publishes s (publish s.world now topic id body))
     (says.Published (map (λ ticket. ticket.seq) few)) new
 answers_published old new now topic id body tickets few moved mark out same permits first keeps =
@@ -384,7 +389,8 @@ answers_published old new now topic id body tickets few moved mark out same perm
     (λ s on.
     let all = whole s on in (
       ap (λ ts. says.Published (map (λ ticket. ticket.seq) ts)) all,
-      subst (λ ts. Keeps new.tickets (reverse (map Submission ts) ++ s.tickets)) all (keeps s.tickets on.tickets),
+      subst (λ ts. KeepsTickets new.tickets (reverse (map Submission ts) ++ s.tickets)) all
+          (keeps s.tickets on.tickets),
     ))
   where
     whole : (s : Session) → CoreStandsFor old s → few ≡ tickets
@@ -404,22 +410,23 @@ answers_look core told reply says = record {
 }
 
 -- Room is made.
-pub stands_with_room : {L : Type 0} (old new : Core L) (s : Session) → KeepsAll old new → CoreStandsFor old s
+pub stands_with_room : {L : Type 0} (old new : Core L) (s : Session) → OnlyMakesRoom old new → CoreStandsFor old s
     → CoreStandsFor new s
 stands_with_room old new s same on =
-    core_goes old new s s.world s.tickets on (stays_so s.world).goes
+    core_goes old new s s.world s.tickets on (stages_nothing s.world).goes
     (subst (λ d. StandsFor d s.world) (sym same.desk) on.desk) (ap (λ d. d.waiting.mark) same.desk) same.held
     (same.permits ∙ on.permits) on.once (same.tickets s.tickets on.tickets)
 
-pub kept_with_room : {L : Type 0} (old new : Core L) → KeepsAll old new → IsCore old → IsCore new
-kept_with_room old new same = holds_so old new (ap (λ d. d.live) same.desk, ap (λ d. batch_out d.waiting) same.desk)
+pub kept_with_room : {L : Type 0} (old new : Core L) → OnlyMakesRoom old new → IsCore old → IsCore new
+kept_with_room old new same = still_holds_all old new
+    (ap (λ d. d.live) same.desk, ap (λ d. batch_out d.waiting) same.desk)
     same.held same.permits
 
 -- Claims
 
 pub tells_given : {A : Type 0} (told : Result A Refusal → Reply) (s : Session) (answer : desk.Answer A)
     (result : Result A Refusal) (next : World) → ((r : Refusal) → told (Err r) ≡ refusal_reply r)
-    → MayGive s.world answer result next → MayTell (tells told s answer) (told result) (record s { world = next })
+    → MayGive s.world answer result next → MayReply (tells told s answer) (told result) (record s { world = next })
 tells_given told s answer result next refusing (inl (e, f)) = inl (ap told e, λ i. record s { world = f i })
 tells_given told s answer result next refusing (inr without) = inr (at answer.memory without)
   where
@@ -443,9 +450,9 @@ waits_if_chosen w now d e = by (accepted (settled_records w) d)
     by (Some a) h = (and_parts (waits w d) _ h).0
 
 -- what waits is pending, no outcome of it waits, and no attempt at it is under way
-pub waits_so : (w : World) (d : ℕ) → waits w d ≡ true → (is_pending (settled_records w) d ≡ true)
+pub waiting_is_pending : (w : World) (d : ℕ) → waits w d ≡ true → (is_pending (settled_records w) d ≡ true)
     × (has_no_waiting_outcome w d ≡ true) × (is_live w d ≡ false)
-waits_so w d h =
+waiting_is_pending w d h =
     let (pending, behind) = and_parts (is_pending (settled_records w) d)
     (has_no_waiting_outcome w d && not (is_live w d)) h in
     let (none, free) = and_parts (has_no_waiting_outcome w d) (not (is_live w d)) behind in
@@ -504,8 +511,9 @@ pub is_claim : (w : World) (now : ℕ) → IsClaimed w (claim w now).reply (clai
 is_claim w now = claimed w now (claim w now).reply (claim w now).next (inl (refl, refl))
 
 -- one attempt more, at a delivery that had none
-once_more : (rows : List Row) (row : Row) → AreOnce rows → is_out row.delivery rows ≡ false → AreOnce (rows ++ row ∷ [])
-once_more rows row once free d = at (nat_eq row.delivery d) refl
+one_each_with_a_claim : (rows : List Row) (row : Row) → AreOnePerDelivery rows → is_out row.delivery rows ≡ false
+    → AreOnePerDelivery (rows ++ row ∷ [])
+one_each_with_a_claim rows row once free d = at (nat_eq row.delivery d) refl
   where
     push : count_by (λ (x : Row). x.delivery == d) (rows ++ row ∷ []) ≡ count_by (λ (x : Row). x.delivery == d) rows
         + cond (nat_eq row.delivery d) 1 0
@@ -539,9 +547,10 @@ answers_claimed old new now job moved mark rows out same permits tickets = recor
         core_goes old new s made.0 s.tickets on (goes_claim s.world (Ok (Some job)) made.0 (at, e, waiting)) made.2 mark
             same
             (permits ∙ ap (λ rows. rows ++ job.row ∷ []) on.permits ∙ sym live)
-            (subst AreOnce (sym live)
-            (once_more s.world.live job.row on.once (waits_so s.world job.row.delivery waiting).2))
-            (subst (λ t. Keeps t s.tickets) (sym tickets) on.tickets),
+            (subst AreOnePerDelivery (sym live)
+            (one_each_with_a_claim s.world.live job.row on.once
+            (waiting_is_pending s.world job.row.delivery waiting).2))
+            (subst (λ t. KeepsTickets t s.tickets) (sym tickets) on.tickets),
       );
 }
 
@@ -564,7 +573,7 @@ pub answers_unclaimed : {L : Type 0} (old new : Core L) (now : ℕ) (result : Re
     → CoreAnswers old (λ s. tells claim_reply s (claim s.world now)) (claim_reply result) new
 answers_unclaimed old new now result none moved mark out same permits tickets = record {
   mark = mark;
-  keeps = holds_so old new out same permits;
+  keeps = still_holds_all old new out same permits;
   moves = λ s on.
       let made = moved s.world on.desk in
       let is = claimed s.world now result made.0 made.1 in
@@ -572,8 +581,8 @@ answers_unclaimed old new now result none moved mark out same permits tickets = 
         record s { world = made.0 },
         tells_given claim_reply s (claim s.world now) result made.0 (λ r. refl) made.1,
         core_goes old new s made.0 s.tickets on (goes_claim s.world result made.0 is) made.2 mark same
-            (permits ∙ on.permits ∙ sym live) (subst AreOnce (sym live) on.once)
-            (subst (λ t. Keeps t s.tickets) (sym tickets) on.tickets),
+            (permits ∙ on.permits ∙ sym live) (subst AreOnePerDelivery (sym live) on.once)
+            (subst (λ t. KeepsTickets t s.tickets) (sym tickets) on.tickets),
       );
 }
 
@@ -620,7 +629,7 @@ live_over w row post now = at w.halted
     at true = refl
     at false = refl
 
--- what stands at the first place is found
+-- what is at the first place is found
 found_at : (test : Row → Bool) (rows : List Row) (i : ℕ) (d : Row) → position test rows ≡ Some i
     → find test rows ≡ Some (get_or rows i d)
 found_at test rows i d e = pick (nat_lt (position_or_len test rows) (length rows)) e
@@ -645,7 +654,7 @@ taken_within : (delivery place : ℕ) (row : Row) (rows rest : List Row) → IsT
 taken_within delivery place row rows rest t =
     (position-Some (λ (r : Row). r.delivery == delivery) rows place row t.at).0
 
--- it stands first of those with its row
+-- it is the first of those with its row
 pub taken_first : (delivery place : ℕ) (row : Row) (rows rest : List Row) → IsTaken delivery place row rows rest
     → position (same_row row) rows ≡ Some place
 taken_first delivery place row rows rest t = by (position (same_row row) rows) refl
@@ -683,8 +692,9 @@ taken_is_out core s delivery place row rest on t =
     (list_any_at (same_row row) core.permits.items place row (taken_within delivery place row core.permits.items rest t)
     (ap (same_row row) (sym t.own) ∙ same_row_self row))
 
-once_less : (rows : List Row) (place : ℕ) (d : Row) → place < length rows → AreOnce rows → AreOnce (remove rows place)
-once_less rows place d within once n =
+one_each_after_a_spend : (rows : List Row) (place : ℕ) (d : Row) → place < length rows → AreOnePerDelivery rows
+    → AreOnePerDelivery (remove rows place)
+one_each_after_a_spend rows place d within once n =
     let less : count_by (λ (x : Row). x.delivery == n) (remove rows place) + cond
     (nat_eq (get_or rows place d).delivery n) 1 0 ≡ count_by (λ (x : Row). x.delivery == n) rows =
     sum_by-remove (λ (x : Row). cond (nat_eq x.delivery n) 1 0) rows place d within in
@@ -711,17 +721,17 @@ answers_spent old new delivery now place post row spent t spends_so mark rows ou
       let found : permit_of s.world delivery ≡ Some row =
       ap (find (λ (r : Row). r.delivery == delivery)) (sym on.permits) ∙ found_at (λ (r : Row). r.delivery == delivery)
       old.permits.items place row t.at ∙ ap (λ r. Some r) (sym t.own) in
-      let once : AreOnce old.permits.items = subst AreOnce (sym on.permits) on.once in
+      let once : AreOnePerDelivery old.permits.items = subst AreOnePerDelivery (sym on.permits) on.once in
       let rest : new.permits.items ≡ next.live =
       t.left ∙ removed_is row old.permits.items place within t.own (once row.delivery) ∙ ap (others row) on.permits
       ∙ sym (live_over s.world row post now) in
-      let fewer : AreOnce next.live = subst AreOnce (sym t.left ∙ rest)
-      (once_less old.permits.items place row within once) in (
+      let fewer : AreOnePerDelivery next.live = subst AreOnePerDelivery (sym t.left ∙ rest)
+      (one_each_after_a_spend old.permits.items place row within once) in (
         record s { world = next },
-        subst (λ p. MayTell (spends s p post now) (spent_reply spent) (record s { world = next })) (sym found)
+        subst (λ p. MayReply (spends s p post now) (spent_reply spent) (record s { world = next })) (sym found)
             (inl (ap spent_reply over.1, refl)),
         core_goes old new s next s.tickets on (goes_over s.world row post now) over.2 mark same rest fewer
-            (subst (λ k. Keeps k s.tickets) (sym tickets) on.tickets),
+            (subst (λ k. KeepsTickets k s.tickets) (sym tickets) on.tickets),
       );
 }
 
@@ -735,7 +745,7 @@ answers_no_permit core delivery now post none = record {
   moves = λ s on.
       let missing : permit_of s.world delivery ≡ None = ap (find (λ (r : Row). r.delivery == delivery)) (sym on.permits)
       ∙ not_found core.permits.items none in
-      (s, subst (λ p. MayTell (spends s p post now) says.NoPermit s) (sym missing) (inl (refl, refl)), on);
+      (s, subst (λ p. MayReply (spends s p post now) says.NoPermit s) (sym missing) (inl (refl, refl)), on);
 }
   where
     not_found : (rows : List Row) → position (λ (r : Row). r.delivery == delivery) rows ≡ None

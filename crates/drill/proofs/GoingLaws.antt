@@ -1,4 +1,4 @@
--- A world that goes on from another one, and what a stop may leave of it.
+-- A world that goes on from another one, and what survives a crash of it.
 use Rattle.std.proofs.Common.{◌≡◌, ◌≤◌, ◌+◌, ◌-◌, ℕ, false, List, [], ◌∷◌, ◌++◌, length, take, refl, sym, ap, subst}
 use Rattle.std.proofs.Common.{◌∙◌, arith, length-append, append-nil, append_assoc}
 use Rattle.std.proofs.lemmas.List.{take-append-le}
@@ -13,14 +13,14 @@ use Rattle.drill.specs.declared.events.Event.{Event}
 use Rattle.drill.specs.declared.events.Event.TheVariants as on
 use Rattle.drill.specs.declared.events.Reply.{Reply}
 use Rattle.drill.specs.Cores.{is_commit}
-use Rattle.drill.specs.Events.{HasFirst, KeepsFirst, Makes, Runs}
+use Rattle.drill.specs.Events.{HasFirst, KeepsFirst, EventMove, EventRun}
 use Rattle.drill.specs.Moves.{Session}
-use Rattle.drill.specs.Runs.{Move}
-use Rattle.drill.specs.Within.{HasMarksInOrder}
-use Rattle.drill.specs.Worlds.{AreInFront, GoesOn, IsOpening}
+use Rattle.drill.specs.Runs.{CallMove}
+use Rattle.drill.specs.BesideCommit.{HasMarksInOrder}
+use Rattle.drill.specs.Worlds.{ArePrefixAfterCrash, GoesOn, IsOpening}
 use Rattle.drill.proofs.CoreLaws.{Goes}
 use Rattle.drill.proofs.FollowLaws.{by_call, commits_follow, follows, sealed_within}
-use Rattle.drill.proofs.TurnLaws.{flatten_both, split_at}
+use Rattle.drill.proofs.BatchLaws.{flatten_both, split_at}
 use Rattle.drill.proofs.VaultLaws.{each_left}
 
 -- Going on
@@ -48,7 +48,7 @@ abbrev GoesInOrder : World → World → Type 0
 GoesInOrder w next = GoesOn w next × HasMarksInOrder next
 
 pub line_goes_on : (s next : Session) (event : line.Call) (told : line_reply.Reply) → HasMarksInOrder s.world
-    → Move s event told next → GoesInOrder s.world next.world
+    → CallMove s event told next → GoesInOrder s.world next.world
 line_goes_on s next event told marks move = by_call (GoesInOrder s.world) s next event told desk
     (commits_follow (GoesInOrder s.world) s next told s.world.out refl stays
     (λ e. (stays_on s.world _ refl (omega arith), marks)) (λ e. (stays_on s.world _ refl (omega arith), marks)))
@@ -75,13 +75,13 @@ line_goes_on s next event told marks move = by_call (GoesInOrder s.world) s next
     }) move
 
 pub event_goes_on : (s next : Session) (event : Event) (told : Reply) → HasMarksInOrder s.world
-    → Makes s event told next → GoesInOrder s.world next.world
+    → EventMove s event told next → GoesInOrder s.world next.world
 event_goes_on s next (on.Line event) told marks (line, is, move) = line_goes_on s next event line marks move
 event_goes_on s next (on.Look asked) told marks (is, same) = subst (λ (t : Session). GoesInOrder s.world t.world)
     (sym same) (stays_on s.world s.world refl (omega arith), marks)
 
 pub run_goes_on : (events : List Event) (replies : List Reply) (s last : Session) (n : ℕ) → HasMarksInOrder s.world
-    → Runs s events replies last n → GoesInOrder s.world last.world
+    → EventRun s events replies last n → GoesInOrder s.world last.world
 run_goes_on [] [] s last n marks (same, none) = subst (λ (t : Session). GoesInOrder s.world t.world) (sym same)
     (stays_on s.world s.world refl (omega arith), marks)
 run_goes_on (event ∷ events) (told ∷ replies) s last n marks (next, later, makes, rest, is) =
@@ -102,10 +102,10 @@ same_first_records w next n g below =
     ap (λ h. take n (records_of h)) g.history ∙ ap (take n) (flatten_both w.history g.more)
     ∙ take-append-le n (all_records w) (records_of g.more) below
 
--- Whatever a stop may leave begins with what was there in the opening.
-pub opening_in_front : (w next : World) → IsOpening w → GoesOn w next → HasMarksInOrder next → LeavesBy next.out next
-    → AreInFront (all_records w) next
-opening_in_front w next (history, clock, is) g marks leaves = each_left (λ steps. (more : List Record)
+-- Whatever survives a crash begins with what was there in the opening.
+pub opening_is_prefix : (w next : World) → IsOpening w → GoesOn w next → HasMarksInOrder next → LeavesBy next.out next
+    → ArePrefixAfterCrash (all_records w) next
+opening_is_prefix w next (history, clock, is) g marks leaves = each_left (λ steps. (more : List Record)
     × (records_of_first next steps ≡ all_records w ++ more)) next next.out leaves
     (at next.settled (omega (arith, all, g.settled))) (at next.sealed (omega (arith, all, g.settled, marks.0)))
   where
@@ -122,11 +122,12 @@ opening_in_front w next (history, clock, is) g marks leaves = each_left (λ step
               ∙ flatten_both w.history (take (steps - length w.history) g.more),
         )
 
--- What is settled is in whatever a stop may leave, in its place.
-pub front_kept : (w : World) (n : ℕ) (records : List Record) → LeavesBy w.out w
+-- What is settled is in whatever survives a crash, in its place.
+pub settled_survive_crash : (w : World) (n : ℕ) (records : List Record) → LeavesBy w.out w
     → n ≤ length (records_of_first w w.settled) → n ≤ length (records_of_first w w.sealed) → take n (all_records w)
     ≡ take n records → KeepsFirst w n records
-front_kept w n records leaves settled sealed same = each_left (λ steps. HasFirst n records (records_of_first w steps)) w
+settled_survive_crash w n records leaves settled sealed same = each_left
+    (λ steps. HasFirst n records (records_of_first w steps)) w
     w.out leaves (at w.settled settled) (at w.sealed sealed)
   where
     at : (steps : ℕ) → n ≤ length (records_of_first w steps) → HasFirst n records (records_of_first w steps)

@@ -1,5 +1,5 @@
 mod CoreLaws
-mod TurnLaws
+mod BatchLaws
 mod FollowLaws
 mod VaultLaws
 mod CommitLaws
@@ -13,7 +13,7 @@ pub mod ReplayLaws
 mod WorkedRun
 mod WorkedPublish
 mod WorkedPurge
-mod WithinLaws
+mod BesideCommitLaws
 mod RefusalLaws
-mod LaterLaws
-mod PlaceLaws
+mod AfterCrashLaws
+mod PreparedLaws

@@ -27,15 +27,15 @@ use Rattle.drill.specs.declared.events.Look.{Look}
 use Rattle.drill.specs.declared.events.Look.TheVariants as look
 use Rattle.drill.specs.declared.events.Reply.{Reply}
 use Rattle.drill.specs.declared.events.Reply.TheVariants as reply
-use Rattle.drill.specs.declared.tickets.Given.{Given}
-use Rattle.drill.specs.declared.tickets.Given.TheVariants.{Submission, Command as OfCommand}
+use Rattle.drill.specs.declared.tickets.AnyTicket.{AnyTicket}
+use Rattle.drill.specs.declared.tickets.AnyTicket.TheVariants.{Submission, Command as OfCommand}
 use Rattle.drill.specs.Events.{look_reply}
 use Rattle.drill.specs.Moves.{Session, Answer, IsOneOf, answer_to, fault_of, lacks, published_reply, staged_reply}
 use Rattle.drill.specs.Moves.{seal_reply}
 use Rattle.drill.specs.Moves.{claim_reply, limits_reply, told_reply, endpoint_reply, event_reply, commits, settles}
 use Rattle.drill.specs.Moves.{unseals, halts, spends, permit_of}
 use Rattle.drill.specs.Refusals.{CanRefuse, RefusalsOfMoves}
-use Rattle.drill.specs.Runs.{Move}
+use Rattle.drill.specs.Runs.{CallMove}
 use Rattle.drill.specs.Tickets.{find_ticket}
 
 -- if the call is refused, then by a fault that can be
@@ -74,7 +74,7 @@ by_lack : (s : Session) (event : line.Call) (memory : Option ℕ) → AreAllowed
 by_lack s event None = tt
 by_lack s event (Some number) = (tt, tt)
 
-by_staged : {A : Type 0} (of : A → Given) (w : World) (event : line.Call) (result : Result A Refusal)
+by_staged : {A : Type 0} (of : A → AnyTicket) (w : World) (event : line.Call) (result : Result A Refusal)
     → IsAllowed w event (staged_reply of result)
 by_staged of w event (Ok ticket) = tt
 by_staged of w event (Err refusal) = by_desk w (on.Line event) refusal.fault
@@ -95,7 +95,7 @@ by_claim w now (Ok None) = tt
 by_claim w now (Ok (Some job)) = tt
 by_claim w now (Err refusal) = by_desk w (on.Line (on_line.Claim now)) refusal.fault
 
-by_told : (w : World) (event : line.Call) (given : Option Given) → IsAllowed w event (told_reply w given)
+by_told : (w : World) (event : line.Call) (given : Option AnyTicket) → IsAllowed w event (told_reply w given)
 by_told w event None = tt
 by_told w event (Some (Submission ticket)) = tt
 by_told w event (Some (OfCommand ticket)) = tt
@@ -112,7 +112,7 @@ by_event : (w : World) (event : line.Call) (shown : Option delivery.Row) → IsA
 by_event w event None = tt
 by_event w event (Some row) = tt
 
--- what a call is told is allowed, and so is each of what it may be told where it isn't served
+-- a call's reply is allowed, and so is each reply that it may get if it isn't served
 abbrev MayBeTold : World → line.Call → Answer → Type 0
 MayBeTold w event answer = IsAllowed w event answer.reply × AreAllowed w event answer.unserved
 
@@ -186,7 +186,7 @@ may_be_told s event = at event
     at (on_line.ShowEndpoint name) = (by_endpoint s.world _ (endpoint_page (settled_records s.world) name), tt)
     at (on_line.Show name id) = (by_event s.world _ (event_page (settled_records s.world) name id), tt)
 
-line_allowed : (s next : Session) (event : line.Call) (told : line_reply.Reply) → Move s event told next
+line_allowed : (s next : Session) (event : line.Call) (told : line_reply.Reply) → CallMove s event told next
     → IsAllowed s.world event told
 line_allowed s next event told (inl given) = subst (IsAllowed s.world event) (sym given.0) (may_be_told s event).0
 line_allowed s next event told (inr one) = by_unserved s.world event (answer_to s event).unserved told next

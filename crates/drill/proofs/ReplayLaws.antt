@@ -13,19 +13,19 @@ use Rattle.drill.specs.declared.player.Player.{Player}
 use Rattle.drill.specs.declared.player.State.TheVariants.{Open}
 use Rattle.drill.specs.declared.runner.Runner.{Runner}
 use Rattle.drill.specs.Moves.{Session, begun}
-use Rattle.drill.specs.Restarts.{Replay, ReadLines, IsNoLine, shown_of, replies_text, Replies, RepliesTo}
-use Rattle.drill.specs.Replays.{RunsLine, Replays, LeavesRun, KeepsRun, StateStandsFor}
+use Rattle.drill.specs.Restarts.{LineRun, ReadLines, IsNoLine, shown_of, replies_text, Replies, RepliesSuchThat}
+use Rattle.drill.specs.Replays.{AnswersText, Replays, LeavesRun, KeepsRun, StateStandsFor}
 use Rattle.recovery.specs.Left.{KeepsRows}
 use Rattle.drill.proofs.CommitLaws.{rows_kept}
 use Rattle.drill.proofs.RestartLaws.{kept_over_stops}
 
--- what is written for the texts, from any session on, where this holds of the last one
+-- what is written for the texts, from any session on, and this holds for the last one
 abbrev RepliesFrom : (Session → Type 0) → Session → List (List ℕ) → List ℕ → Type 0
 RepliesFrom Holds s texts written = (lines : List Line) × (replies : List Reply) × (last : Session) × (acknowledged : ℕ)
-    × ReadLines texts lines × Replay s lines replies last acknowledged × (written ≡ replies_text replies) × Holds last
+    × ReadLines texts lines × LineRun s lines replies last acknowledged × (written ≡ replies_text replies) × Holds last
 
 replies_from : {L S : Type 0} (g : Ghosts S) (old new : Player L S g) (s : Session) (texts : List (List ℕ))
-    (written : List ℕ) → StateStandsFor g old.state s → AnswersEach (RunsLine g) old texts written new
+    (written : List ℕ) → StateStandsFor g old.state s → AnswersEach (AnswersText g) old texts written new
     → RepliesFrom (StateStandsFor g new.state) s texts written
 replies_from {L} {S} g old new s [] written stands (none, same) =
     ([], [], s, 0, tt, (refl, refl), none, subst (λ (p : Player L S g). StateStandsFor g p.state s) same stands)
@@ -50,11 +50,12 @@ Replies-none = ([], [], begun, 0, tt, (refl, refl), refl)
 -- a player of the empty history replays the lines that it answers
 pub replays : {L S : Type 0} (g : Ghosts S) (player : Player L S g) (input old new : Option (List ℕ))
     (end : Result (Unit {0}) StreamFault) → StateStandsFor g player.state begun
-    → Ends (AnswersFrom (RunsLine g) player) IsNoLine input old new end → Replays input old new end
-replays g player input old new end stands ends = Ends-more (AnswersFrom (RunsLine g) player) Replies IsNoLine says input
+    → Ends (AnswersFrom (AnswersText g) player) IsNoLine input old new end → Replays input old new end
+replays g player input old new end stands ends = Ends-more (AnswersFrom (AnswersText g) player) Replies IsNoLine says
+    input
     old new end ends
   where
-    says : (texts : List (List ℕ)) (written : List ℕ) → AnswersFrom (RunsLine g) player texts written
+    says : (texts : List (List ℕ)) (written : List ℕ) → AnswersFrom (AnswersText g) player texts written
         → Replies texts written
     says texts written (now, each) =
         let (lines, replies, last, n, calls, run, said, holds) = replies_from g player now begun texts written stands
@@ -66,12 +67,12 @@ pub keeps_run : {L S : Type 0} (g : Ghosts S) (player now : Player L S g) (conn 
     (input old new : Option (List ℕ)) (end : Result (Unit {0}) StreamFault)
     → ((runner : Runner L S g) → now.state ≡ Open runner → conn ≡ runner.vault.conn)
     → StateStandsFor g player.state begun
-    → Ends (AnswersTo (RunsLine g) player now) IsNoLine input old new end → KeepsRun g conn input old new end
-keeps_run g player now conn input old new end same stands ends = Ends-more (AnswersTo (RunsLine g) player now)
-    (RepliesTo (LeavesRun g conn)) IsNoLine says input old new end ends
+    → Ends (AnswersTo (AnswersText g) player now) IsNoLine input old new end → KeepsRun g conn input old new end
+keeps_run g player now conn input old new end same stands ends = Ends-more (AnswersTo (AnswersText g) player now)
+    (RepliesSuchThat (LeavesRun g conn)) IsNoLine says input old new end ends
   where
-    says : (texts : List (List ℕ)) (written : List ℕ) → AnswersTo (RunsLine g) player now texts written
-        → RepliesTo (LeavesRun g conn) texts written
+    says : (texts : List (List ℕ)) (written : List ℕ) → AnswersTo (AnswersText g) player now texts written
+        → RepliesSuchThat (LeavesRun g conn) texts written
     says texts written each =
         let (lines, replies, last, n, calls, run, said, (runner, is, holds)) = replies_from g player now begun texts
         written stands each in

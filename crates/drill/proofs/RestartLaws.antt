@@ -13,13 +13,13 @@ use Rattle.desk.specs.World.{World, all_records, settled_records, waiting_record
 use Rattle.recovery.specs.Left.{records_of_first}
 use Rattle.recovery.specs.Reopenings.{opening_of}
 use Rattle.drill.specs.Moves.{Session, begun}
-use Rattle.drill.specs.Events.{HasFirst, IsKept}
-use Rattle.drill.specs.Restarts.{OpensAgain, Takes, shown_of, Replay}
+use Rattle.drill.specs.Events.{HasFirst, SurvivesCrash}
+use Rattle.drill.specs.Restarts.{OpensAgain, LineMove, shown_of, LineRun}
 use Rattle.drill.specs.Unrecorded.{ArePendingAgain}
 use Rattle.drill.proofs.AttemptLaws.{IsTracked, line_tracked, opening_tracked, pending_again}
 use Rattle.drill.proofs.GoingLaws.{line_goes_on, same_first_records}
 use Rattle.drill.proofs.ShownLaws.{IsOrdered, line_keeps, line_shown, settled_count, settled_kept}
-use Rattle.drill.proofs.TurnLaws.{split_at}
+use Rattle.drill.proofs.BatchLaws.{split_at}
 
 settled_in_all : (w : World) → settled_count w ≤ length (all_records w)
 settled_in_all w = omega (
@@ -37,21 +37,21 @@ pub ordered : (s : Session) → IsTracked s.world → IsOrdered s.world
 ordered s h = record { below = h.below; within = h.within }
 
 -- what one line keeps of the records that are settled, and what it shows of them
-record Keeps (s : Session) (line : Line) (told : Reply) (next : Session) : Type 0 where
+record AfterLine (s : Session) (line : Line) (told : Reply) (next : Session) : Type 0 where
   tracked : IsTracked next.world
   settled : settled_count s.world ≤ settled_count next.world
   shown : shown_of s.world line told ≤ settled_count next.world
   same : take (settled_count s.world) (all_records next.world) ≡ take (settled_count s.world) (all_records s.world)
 
--- an opening on steps that a stop left
+-- an opening on steps that survived a stop
 opens_again : (s : Session) (left : List ℕ) (told : Reply) (next : Session)
     → AllByRecursion (λ steps. HasFirst (settled_count s.world) (all_records s.world) (records_of_first s.world steps))
     left
-    → OpensAgain s left told next → Keeps s Stop told next
+    → OpensAgain s left told next → AfterLine s Stop told next
 opens_again s [] told next kept none = absurd none
 opens_again s (steps ∷ left) told next kept (inl (said, is)) =
     let first : History = take steps s.world.history in
-    subst (Keeps s Stop told) (sym is) (record {
+    subst (AfterLine s Stop told) (sym is) (record {
       tracked = opening_tracked (opening_of first) (first, (opening_of first).clock, refl);
       settled = omega (arith, kept.0.0, ap (λ (h : History). length (records_of h)) (take-length first));
       shown = omega arith;
@@ -59,32 +59,32 @@ opens_again s (steps ∷ left) told next kept (inl (said, is)) =
     })
 opens_again s (steps ∷ left) told next kept (inr others) = opens_again s left told next kept.1 others
 
-keeps : (s : Session) (line : Line) (told : Reply) (next : Session) → IsTracked s.world → Takes s line told next
-    → Keeps s line told next
-keeps s (Call event) told next h move = record {
+after_line : (s : Session) (line : Line) (told : Reply) (next : Session) → IsTracked s.world → LineMove s line told next
+    → AfterLine s line told next
+after_line s (Call event) told next h move = record {
   tracked = line_tracked s next event told h move;
   settled = line_keeps s next event told (ordered s h) move;
   shown = line_shown s next event told (ordered s h) move;
   same = same_first_records s.world next.world (settled_count s.world)
       (line_goes_on s next event told (h.below, h.within) move).0 (settled_in_all s.world);
 }
-keeps s Stop told next h opens = opens_again s s.world.left told next
+after_line s Stop told next h opens = opens_again s s.world.left told next
     (settled_kept s.world (settled_count s.world) (ordered s h) h.leaves (omega arith)) opens
 
 -- what all lines keep, and what they show
-pub record KeepsAll (s : Session) (last : Session) (acknowledged : ℕ) : Type 0 where
+pub record AfterLines (s : Session) (last : Session) (acknowledged : ℕ) : Type 0 where
   pub tracked : IsTracked last.world
   pub settled : settled_count s.world ≤ settled_count last.world
   pub shown : acknowledged ≤ settled_count last.world
   pub same : take (settled_count s.world) (all_records last.world) ≡ take (settled_count s.world) (all_records s.world)
 
-pub keeps_all : (s : Session) (lines : List Line) (replies : List Reply) (last : Session) (n : ℕ) → IsTracked s.world
-    → Replay s lines replies last n → KeepsAll s last n
-keeps_all s [] [] last n h (same, none) = subst (λ t. KeepsAll s t n) (sym same)
+pub after_lines : (s : Session) (lines : List Line) (replies : List Reply) (last : Session) (n : ℕ) → IsTracked s.world
+    → LineRun s lines replies last n → AfterLines s last n
+after_lines s [] [] last n h (same, none) = subst (λ t. AfterLines s t n) (sym same)
     (record { tracked = h; settled = omega arith; shown = omega (arith, none); same = refl })
-keeps_all s (line ∷ lines) (told ∷ replies) last n h (next, later, takes, rest, is) =
-    let here = keeps s line told next h takes in
-    let behind = keeps_all next lines replies last later here.tracked rest in
+after_lines s (line ∷ lines) (told ∷ replies) last n h (next, later, takes, rest, is) =
+    let here = after_line s line told next h takes in
+    let behind = after_lines next lines replies last later here.tracked rest in
     record {
       tracked = behind.tracked;
       settled = omega (arith, here.settled, behind.settled);
@@ -92,15 +92,15 @@ keeps_all s (line ∷ lines) (told ∷ replies) last n h (next, later, takes, re
       same = shorter (settled_count s.world) (settled_count next.world) (all_records last.world)
           (all_records next.world) here.settled behind.same ∙ here.same;
     }
-keeps_all s [] (told ∷ replies) last n h run = absurd run
-keeps_all s (line ∷ lines) [] last n h run = absurd run
+after_lines s [] (told ∷ replies) last n h run = absurd run
+after_lines s (line ∷ lines) [] last n h run = absurd run
 
--- At the end of a script's run each record that was shown to be settled is kept, and each attempt without an outcome is
--- pending again.
+-- At the end of a script's run each record that was shown to be settled is kept, and each attempt
+-- without an outcome is pending again.
 pub kept_over_stops : (lines : List Line) (replies : List Reply) (last : Session) (n : ℕ)
-    → Replay begun lines replies last n → IsKept last.world n × ArePendingAgain last.world
+    → LineRun begun lines replies last n → SurvivesCrash last.world n × ArePendingAgain last.world
 kept_over_stops lines replies last n run =
-    let all = keeps_all begun lines replies last n (opening_tracked begun.world ([], 0, refl)) run in (
+    let all = after_lines begun lines replies last n (opening_tracked begun.world ([], 0, refl)) run in (
       settled_kept last.world n (ordered last all.tracked) all.tracked.leaves all.shown,
       pending_again last.world
           all.tracked,

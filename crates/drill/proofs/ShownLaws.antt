@@ -36,31 +36,33 @@ use Rattle.drill.specs.declared.events.Look.{Look}
 use Rattle.drill.specs.declared.events.Look.TheVariants as look
 use Rattle.drill.specs.declared.events.Reply.{Reply}
 use Rattle.drill.specs.declared.events.Reply.TheVariants as reply
-use Rattle.drill.specs.declared.tickets.Given.{Given}
-use Rattle.drill.specs.declared.tickets.Given.TheVariants.{Submission, Command}
+use Rattle.drill.specs.declared.tickets.AnyTicket.{AnyTicket}
+use Rattle.drill.specs.declared.tickets.AnyTicket.TheVariants.{Submission, Command}
 use Rattle.drill.specs.declared.calls.Core.{Core}
 use Rattle.drill.specs.declared.held.Held.{Held}
 use Rattle.drill.specs.declared.held.Held.TheVariants as held
-use Rattle.drill.specs.Cores.{AreOnce, CoreStandsFor, HoldsOut, IsCore, IsHeld, is_commit, receipt_of, given_of}
+use Rattle.drill.specs.Cores.{AreOnePerDelivery, CoreStandsFor, HoldsOut, IsCore, IsHeld, is_commit, receipt_of}
+use Rattle.drill.specs.Cores.{given_of}
 use Rattle.drill.specs.Runners.{RunStandsFor}
-use Rattle.drill.specs.Worlds.{IsOpening, IsOut, IsRunFrom, TakesEvent, TakesEvents, session_of}
-use Rattle.drill.specs.Events.{KeepsFirst, Makes, Runs, IsKept, shown, shown_by_line, shown_by_look, look_reply}
-use Rattle.drill.specs.Moves.{Session, MayTell, IsOneOf, claim_reply, lacks, settles, told_as, told_reply}
-use Rattle.drill.specs.Runs.{Move}
-use Rattle.drill.specs.Tickets.{Keeps, find_ticket, seq_of}
+use Rattle.drill.specs.Worlds.{IsOpening, IsOut, IsRunFrom, AnswersEvent, AnswersEvents, session_of}
+use Rattle.drill.specs.Events.{KeepsFirst, EventMove, EventRun, SurvivesCrash, shown, shown_by_line, shown_by_look}
+use Rattle.drill.specs.Events.{look_reply}
+use Rattle.drill.specs.Moves.{Session, MayReply, IsOneOf, claim_reply, lacks, settles, told_as, told_reply}
+use Rattle.drill.specs.Runs.{CallMove}
+use Rattle.drill.specs.Tickets.{KeepsTickets, find_ticket, seq_of}
 use Rattle.drill.specs.declared.runs.World as left
 use Rattle.drill.proofs.CommitLaws.{rows_kept}
 use Rattle.drill.proofs.CoreLaws.{same_first}
 use Rattle.drill.proofs.FollowLaws.{by_call, commits_follow, follows}
-use Rattle.drill.proofs.GoingLaws.{front_kept, opening_in_front, opening_marks, run_goes_on}
+use Rattle.drill.proofs.GoingLaws.{settled_survive_crash, opening_is_prefix, opening_marks, run_goes_on}
 use Rattle.drill.proofs.AttemptLaws.{attempts_pending_again}
-use Rattle.drill.proofs.TurnLaws.{sealed_is}
+use Rattle.drill.proofs.BatchLaws.{settled_and_batch}
 
 -- how many records are settled, and sealed
 abbrev pub settled_count : World → ℕ
 settled_count w = length (settled_records w)
 
--- the marks stand in their order
+-- the marks are in their order
 pub record IsOrdered (w : World) : Type 0 where
   pub below : w.settled ≤ w.sealed
   pub within : w.sealed ≤ length w.history
@@ -68,7 +70,7 @@ pub record IsOrdered (w : World) : Type 0 where
 settled_in_sealed : (w : World) → IsOrdered w → settled_count w ≤ length (sealed_records w)
 settled_in_sealed w h = omega (
   arith,
-  ap length (sealed_is 0 w h.below),
+  ap length (settled_and_batch 0 w h.below),
   length-append (settled_records w)
       (records_of (sealed_batch 0 w).steps),
 )
@@ -76,7 +78,7 @@ settled_in_sealed w h = omega (
 -- What is settled stays settled
 
 pub line_keeps : (s next : Session) (event : line.Call) (told : line_reply.Reply) → IsOrdered s.world
-    → Move s event told next → settled_count s.world ≤ settled_count next.world
+    → CallMove s event told next → settled_count s.world ≤ settled_count next.world
 line_keeps s next event told h move = by_call keeps s next event told desk
     (commits_follow keeps s next told s.world.out refl (omega arith) (λ e. omega arith) (λ e. omega arith)) move
   where
@@ -97,7 +99,7 @@ line_keeps s next event told h move = by_call keeps s next event told desk
       halts = λ other. omega arith;
     }) move
 
-pub event_keeps : (s next : Session) (event : Event) (told : Reply) → IsOrdered s.world → Makes s event told next
+pub event_keeps : (s next : Session) (event : Event) (told : Reply) → IsOrdered s.world → EventMove s event told next
     → settled_count s.world ≤ settled_count next.world
 event_keeps s next (on.Line event) told h (line, is, move) = line_keeps s next event line h move
 event_keeps s next (on.Look asked) told h (is, same) = subst
@@ -138,7 +140,8 @@ command_below w ticket e =
           (settled_if w (nat_lt ticket.seq (settled_count w)) (nat_lt ticket.seq (next_seq w)) e),
     )
 
-found_seq : (tickets : List Given) (seq : ℕ) (given : Given) → find_ticket tickets seq ≡ Some given → seq_of given ≡ seq
+found_seq : (tickets : List AnyTicket) (seq : ℕ) (given : AnyTicket) → find_ticket tickets seq ≡ Some given
+    → seq_of given ≡ seq
 found_seq [] seq given e = absurd (let no = e in cc)
 found_seq (first ∷ rest) seq given e = at (seq_of first == seq) refl e (found_seq rest seq given)
   where
@@ -155,7 +158,7 @@ told_below : (s : Session) (seq : ℕ) → says.ToldAs as_told.Settled ≡ told_
     → seq + 1 ≤ settled_count s.world
 told_below s seq e = at (find_ticket s.tickets seq) refl e
   where
-    at : (o : Option Given) → find_ticket s.tickets seq ≡ o → says.ToldAs as_told.Settled ≡ told_reply s.world o
+    at : (o : Option AnyTicket) → find_ticket s.tickets seq ≡ o → says.ToldAs as_told.Settled ≡ told_reply s.world o
         → seq + 1 ≤ settled_count s.world
     at None is e = absurd (let no = e in cc)
     at (Some (Submission ticket)) is e = omega
@@ -223,14 +226,14 @@ by_claim w now (says.Permit delivery endpoint id attempt at inflight) e = permit
     (says.Permit delivery endpoint id attempt at inflight) refl e
 by_claim w now other e = omega arith
 
-by_want : (s next : Session) (now n : ℕ) (told : line_reply.Reply) (memory : Option ℕ)
+by_no_memory : (s next : Session) (now n : ℕ) (told : line_reply.Reply) (memory : Option ℕ)
     → IsOneOf (lacks s memory) told next → shown_by_line s.world (on_line.Claim now) told ≤ n
-by_want s next now n told None none = absurd none
-by_want s next now n told (Some number) (inl (e, f)) = subst (λ t. shown_by_line s.world (on_line.Claim now) t ≤ n)
+by_no_memory s next now n told None none = absurd none
+by_no_memory s next now n told (Some number) (inl (e, f)) = subst (λ t. shown_by_line s.world (on_line.Claim now) t ≤ n)
     (sym e) (omega arith)
-by_want s next now n told (Some number) (inr none) = absurd none
+by_no_memory s next now n told (Some number) (inr none) = absurd none
 
-by_settle : (s next : Session) (told : line_reply.Reply) (o : Out) → MayTell (settles s o) told next
+by_settle : (s next : Session) (told : line_reply.Reply) (o : Out) → MayReply (settles s o) told next
     → shown_by_line s.world on_line.Settle told ≤ settled_count next.world
 by_settle s next told Nothing (inl (e, f)) = subst
     (λ t. shown_by_line s.world on_line.Settle t ≤ settled_count next.world) (sym e) (omega arith)
@@ -257,15 +260,15 @@ by_event w name id (says.Event state due attempts) = omega arith
 by_event w name id other = omega arith
 
 pub line_shown : (s next : Session) (event : line.Call) (told : line_reply.Reply) → IsOrdered s.world
-    → Move s event told next → shown_by_line s.world event told ≤ settled_count next.world
+    → CallMove s event told next → shown_by_line s.world event told ≤ settled_count next.world
 line_shown s next event told h move = at event move (line_keeps s next event told h move)
   where
-    at : (event : line.Call) → Move s event told next → settled_count s.world ≤ settled_count next.world
+    at : (event : line.Call) → CallMove s event told next → settled_count s.world ≤ settled_count next.world
         → shown_by_line s.world event told ≤ settled_count next.world
     at (on_line.Told seq) (inl (e, f)) keeps = omega (arith, keeps, by_told s seq told e)
     at (on_line.Told seq) (inr none) keeps = absurd none
     at (on_line.Claim now) (inl (e, f)) keeps = omega (arith, keeps, by_claim s.world now told e)
-    at (on_line.Claim now) (inr without) keeps = by_want s next now (settled_count next.world) told
+    at (on_line.Claim now) (inr without) keeps = by_no_memory s next now (settled_count next.world) told
         (claim s.world now).memory without
     at on_line.Settle move keeps = by_settle s next told s.world.out move
     at (on_line.ShowEndpoint name) move keeps = omega (arith, keeps, by_endpoint s.world name told)
@@ -295,7 +298,7 @@ by_look w look.Records = omega arith
 by_look w look.SettledRecords = omega arith
 by_look w look.IsHalted = omega arith
 
-pub event_shown : (s next : Session) (event : Event) (told : Reply) → IsOrdered s.world → Makes s event told next
+pub event_shown : (s next : Session) (event : Event) (told : Reply) → IsOrdered s.world → EventMove s event told next
     → shown s.world event told ≤ settled_count next.world
 event_shown s next (on.Line event) told h (line, is, move) = subst
     (λ t. shown s.world (on.Line event) t ≤ settled_count next.world) (sym is) (line_shown s next event line h move)
@@ -305,34 +308,35 @@ event_shown s next (on.Look asked) told h (is, same) =
 
 -- One event more
 
-pub runs_more : (s mid next : Session) (events : List Event) (replies : List Reply) (n : ℕ) (event : Event)
-    (told : Reply) → Runs s events replies mid n → Makes mid event told next
-    → (m : ℕ) × Runs s (events ++ event ∷ []) (replies ++ told ∷ []) next m
+pub run_with_one_more : (s mid next : Session) (events : List Event) (replies : List Reply) (n : ℕ) (event : Event)
+    (told : Reply) → EventRun s events replies mid n → EventMove mid event told next
+    → (m : ℕ) × EventRun s (events ++ event ∷ []) (replies ++ told ∷ []) next m
     × ((bound : ℕ) → n ≤ bound → shown mid.world event told ≤ bound → m ≤ bound)
-runs_more s mid next [] [] n event told (same, none) makes =
-    let from = subst (λ (t : Session). Makes t event told next) same makes in (
+run_with_one_more s mid next [] [] n event told (same, none) makes =
+    let from = subst (λ (t : Session). EventMove t event told next) same makes in (
       max (shown s.world event told) 0,
       (next, 0, from, (refl, refl), refl),
       λ bound below shows. omega
           (arith, shows, ap (λ (t : Session). shown t.world event told) same),
     )
-runs_more s mid next (first ∷ events) (given ∷ replies) n event told (after, later, makes_first, run, is) makes =
-    let (m, more, below_all) = runs_more after mid next events replies later event told run makes in (
+run_with_one_more s mid next (first ∷ events) (given ∷ replies) n event told (after, later, makes_first, run, is)
+    makes =
+    let (m, more, below_all) = run_with_one_more after mid next events replies later event told run makes in (
       max (shown s.world first given) m,
       (after, m, makes_first, more, refl),
       λ bound below shows. omega
           (arith, below_all bound (omega (arith, below, is)) shows, below, is),
     )
-runs_more s mid next [] (given ∷ replies) n event told run makes = absurd run
-runs_more s mid next (first ∷ events) [] n event told run makes = absurd run
+run_with_one_more s mid next [] (given ∷ replies) n event told run makes = absurd run
+run_with_one_more s mid next (first ∷ events) [] n event told run makes = absurd run
 
--- Whatever a stop may leave has what is settled, in its place.
+-- Whatever survives a crash has what is settled, in its place.
 pub first_kept : (w : World) (n : ℕ) (records : List Record) → IsOrdered w → LeavesBy w.out w → n ≤ settled_count w
     → take n (all_records w) ≡ take n records → KeepsFirst w n records
-first_kept w n records h leaves below same = front_kept w n records leaves below
+first_kept w n records h leaves below same = settled_survive_crash w n records leaves below
     (omega (arith, below, settled_in_sealed w h)) same
 
-pub settled_kept : (w : World) (n : ℕ) → IsOrdered w → LeavesBy w.out w → n ≤ settled_count w → IsKept w n
+pub settled_kept : (w : World) (n : ℕ) → IsOrdered w → LeavesBy w.out w → n ≤ settled_count w → SurvivesCrash w n
 settled_kept w n h leaves below = first_kept w n (all_records w) h leaves below refl
 
 -- What is held, as it is handed on.
@@ -354,18 +358,18 @@ is_ordered g core vault s on = record {
 }
 
 pub no_events : {L S : Type 0} (g : Ghosts S) (core : Core L) (vault : VaultValue S)
-    → TakesEvents g core vault [] [] core vault
+    → AnswersEvents g core vault [] [] core vault
 no_events g core vault s on = (s, 0, (refl, refl), on, omega arith)
 
 pub events_more : {L S : Type 0} (g : Ghosts S) (first mid new : Core L) (before between later : VaultValue S)
     (events : List Event) (replies : List Reply) (event : Event) (told : Reply)
-    → TakesEvents g first before events replies mid between → TakesEvent g mid between event told new later
-    → TakesEvents g first before (events ++ event ∷ []) (replies ++ told ∷ []) new later
+    → AnswersEvents g first before events replies mid between → AnswersEvent g mid between event told new later
+    → AnswersEvents g first before (events ++ event ∷ []) (replies ++ told ∷ []) new later
 events_more g first mid new before between later events replies event told so_far takes s on =
     let (at, n, run, there, below) = so_far s on in
     let (next, makes, after) = takes at there in
     let ordered = is_ordered g mid between at there in
-    let (m, more, below_all) = runs_more s at next events replies n event told run makes in (
+    let (m, more, below_all) = run_with_one_more s at next events replies n event told run makes in (
       next,
       m,
       more,
@@ -378,12 +382,13 @@ events_more g first mid new before between later events replies event told so_fa
 -- The first session
 
 pub begun_core : {L : Type 0} (core : Core L) (w : World) → StandsFor core.desk w → IsOpening w
-    → core.held ≡ held.Nothing → core.permits.items ≡ [] → Keeps core.tickets [] → CoreStandsFor core (session_of w)
+    → core.held ≡ held.Nothing → core.permits.items ≡ [] → KeepsTickets core.tickets []
+    → CoreStandsFor core (session_of w)
 begun_core core w on (history, clock, is) nothing none kept = record {
   desk = on;
   held = subst (IsHeld core.desk.waiting.mark w) (sym nothing) (ap (λ (v : World). v.out) is);
   permits = none ∙ sym (ap (λ (v : World). v.live) is);
-  once = subst AreOnce (sym (ap (λ (v : World). v.live) is)) (λ delivery. omega arith);
+  once = subst AreOnePerDelivery (sym (ap (λ (v : World). v.live) is)) (λ delivery. omega arith);
   tickets = kept;
 }
 
@@ -394,11 +399,12 @@ idle_core core (live, out) nothing none = merely (record {
   out = subst (HoldsOut (batch_out core.desk.waiting)) (sym nothing) (ap (option_map (batch_of core.desk.waiting)) out);
 })
 
--- What is left when all events were told their replies
+-- What is left when all events got their replies
 
 pub run_from : {L S : Type 0} (g : Ghosts S) (first : Core L) (before : VaultValue S) (core : Core L) (w : World)
     (events : List Event) (to : left.World L S) → IsOpening w → RunStandsFor g first before (session_of w)
-    → TakesEvents g first before events to.replies.items core to.vault → to.desk ≡ core.desk → to.permits ≡ core.permits
+    → AnswersEvents g first before events to.replies.items core to.vault → to.desk ≡ core.desk
+    → to.permits ≡ core.permits
     → to.receipt ≡ receipt_of core.held → to.held ≡ given_of core.held → IsRunFrom g (session_of w) events to
 run_from g first before core w events to opening started takes desk permits receipt given =
     let (last, n, run, on, below) = takes (session_of w) started in
@@ -416,7 +422,7 @@ run_from g first before core w events to opening started takes desk permits rece
       mark = ap (λ d. d.waiting.mark) desk ∙ on.mark;
       goes = going.0;
       leaves = rows_kept g to.vault last.world on.holds;
-      begins = opening_in_front w last.world opening going.0 going.1 on.holds.leaves;
+      begins = opening_is_prefix w last.world opening going.0 going.1 on.holds.leaves;
       kept = settled_kept last.world n (is_ordered g core to.vault last on) on.holds.leaves below;
       again = attempts_pending_again w events to.replies.items last n opening run;
     }

@@ -1,4 +1,4 @@
--- What a stop leads to: the store is opened again on what was left.
+-- After a stop the store is opened again on what was left.
 use Rattle.std.proofs.Common.{◌≡◌, List, [], ◌∷◌, length, take, Result, Ok, Err, inl, inr, refl, sym, ap, subst, ◌∙◌}
 use Rattle.std.proofs.Math.Seq.{take-length}
 use Rattle.std.specs.Prelude.{IfOk, IsTrue}
@@ -20,7 +20,7 @@ use Rattle.drill.specs.declared.player.State.{State}
 use Rattle.drill.specs.declared.player.State.TheVariants.{Open}
 use Rattle.drill.specs.declared.runner.Runner.{Runner}
 use Rattle.drill.specs.Moves.{Session, answer_to}
-use Rattle.drill.specs.Replays.{TakesLine}
+use Rattle.drill.specs.Replays.{AnswersLine}
 use Rattle.drill.specs.Restarts.{OpensAgain}
 use Rattle.drill.specs.Runners.{Answers, RunStandsFor}
 use Rattle.drill.specs.Worlds.{session_of}
@@ -43,7 +43,7 @@ starts_again g s core desk vault (steps ∷ others) marked stands (inl (on, hold
 starts_again g s core desk vault (steps ∷ others) marked stands (inr more) =
     let (next, opens, on) = starts_again g s core desk vault others marked stands more in (next, inr opens, on)
 
--- The store was open, so what a stop leaves stood in it.
+-- The store was open, so what survives a stop was in it.
 pub stop_taken : {L S : Type 0} (g : Ghosts S) (s : Session) (before : Core L) (old : VaultValue S) (conn : Held S)
     (core : Core L) (desk : DeskValue) (vault : VaultValue S) → RunStandsFor g before old s → conn ≡ old.conn
     → IsOpenBehind (state g conn) (state g vault.conn) → ReopensLeft g conn desk vault → core.desk.waiting.mark
@@ -56,7 +56,7 @@ stop_taken g s before old conn core desk vault on same (may, is_open) reopens ma
     let found = subst (λ c. FindsLeft g c s.world) (sym same) ((rows_kept g old s.world on.holds).finds was_open) in
     starts_again g s core desk vault s.world.left marked stands (reopens s.world on.stands.desk.books.legal found)
 
--- What a runner does, the player that has it does
+-- The player does what its runner does
 
 module _ {L S : Type 0} (g : Ghosts S) (old new : State L S g) (runner after : Runner L S g) where
   one_runner : {a b : Runner L S g} → Open a ≡ Open b → a ≡ b
@@ -68,18 +68,18 @@ module _ {L S : Type 0} (g : Ghosts S) (old new : State L S g) (runner after : R
 
   pub call_taken : (event : Call) (reply : Reply) → old ≡ Open runner → new ≡ Open after
       → Answers g runner.core runner.vault (λ s. answer_to s event) reply after.core after.vault
-      → TakesLine g old (as_line.Call event) reply new
+      → AnswersLine g old (as_line.Call event) reply new
   call_taken event reply was is answers s (first, same, on) =
       let (next, told, stands) = answers s (stood s first was same on) in (next, told, (after, is, stands))
 
   pub reopening_taken : (reply : Reply) → old ≡ Open runner → new ≡ Open after
       → ((s : Session) → RunStandsFor g runner.core runner.vault s → (next : Session)
       × OpensAgain s s.world.left reply next × RunStandsFor g after.core after.vault next)
-      → TakesLine g old as_line.Stop reply new
+      → AnswersLine g old as_line.Stop reply new
   reopening_taken reply was is opens s (first, same, on) =
       let (next, leads, stands) = opens s (stood s first was same on) in (next, leads, (after, is, stands))
 
--- what is so of an answer
+-- the facts of an answer
 module _ {A E : Type 0} (P Q : A → Type 0) where
   pub on_ok : (r : Result A E) → ((x : A) → P x → Q x) → IfOk r P → IfOk r Q
   on_ok (Ok x) then p = then x p

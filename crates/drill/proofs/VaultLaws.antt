@@ -10,7 +10,7 @@ use Rattle.script_lines.specs.declared.call.Call.{Call}
 use Rattle.script_lines.specs.declared.reply.Reply.{Reply}
 use Rattle.desk.specs.World.{World, Out, Nothing, Batch, Receipt, Doubt}
 use Rattle.desk.specs.Moves.{with_halt}
-use Rattle.drill.specs.Moves.{Session, MayTell, answer_to}
+use Rattle.drill.specs.Moves.{Session, MayReply, answer_to}
 use Rattle.drill.specs.Cores.{is_commit}
 use Rattle.recovery.specs.Left.{IsOpenAt, AreOfSteps, LeavesBy, HoldsLeft, VaultStandsFor}
 use Rattle.drill.proofs.CoreLaws.{Goes, same_first}
@@ -24,7 +24,7 @@ leaves_goes w next Batch g e = g.left ∙ e ∙ ap (λ k. k ∷ []) (sym g.settl
 leaves_goes w next Receipt g e = g.left ∙ e ∙ ap (λ k. k ∷ []) (sym g.sealed)
 leaves_goes w next Doubt g e = g.left ∙ e ∙ (λ i. sym g.settled i ∷ sym g.sealed i ∷ [])
 
--- a stop leaves none but the settled steps and the sealed ones
+-- only the settled steps and the sealed ones survive a crash
 pub each_left : (P : ℕ → Type 0) (w : World) (o : Out) → LeavesBy o w → P w.settled → P w.sealed
     → AllByRecursion P w.left
 each_left P w Nothing (inl e) settled sealed = subst (AllByRecursion P) (sym e) (settled, tt)
@@ -58,12 +58,12 @@ vault_goes g vault w next goes below within h = record {
       (each_left (λ k. k ≤ length w.history) w w.out h.leaves (omega arith) within) h.holds);
 }
 
--- where nothing is out at a desk that isn't halted, a stop leaves the settled steps
+-- the settled steps survive a crash, if nothing is out at a desk that isn't halted
 pub leaves_settled : (w : World) → w.halted ≡ false → LeavesBy Nothing w → w.left ≡ w.settled ∷ []
 leaves_settled w going (inl e) = e
 leaves_settled w going (inr (halted, e)) = absurd (let no = halted in cc)
 
--- where a stop leaves the settled steps, it does once a committer gives up
+-- if the settled steps survive a crash, they still do once a committer halts the desk
 pub left_on_halt : (w : World) (o : Out) → (o ≡ Receipt → ⊥) → LeavesBy o w → LeavesBy Nothing (with_halt w)
 left_on_halt w Nothing other (inl left) = inl left
 left_on_halt w Nothing other (inr (halted, left)) = inr (refl, left)
@@ -73,7 +73,7 @@ left_on_halt w Doubt other left = inr (refl, left)
 
 pub vault_follows : {S : Type 0} (g : Ghosts S) (vault : VaultValue S) (s next : Session) (event : Call) (reply : Reply)
     → is_commit event ≡ false → s.world.settled ≤ s.world.sealed → s.world.sealed ≤ length s.world.history
-    → VaultStandsFor g vault s.world → MayTell (answer_to s event) reply next → VaultStandsFor g vault next.world
+    → VaultStandsFor g vault s.world → MayReply (answer_to s event) reply next → VaultStandsFor g vault next.world
 vault_follows g vault s next event reply own below within h = follows (VaultStandsFor g vault) s next event reply own
     (record {
       stays = h;

@@ -1,5 +1,5 @@
--- A worked run of events for a topic: the numbers stand in the order of the endpoints' Puts, and a subscriber that
--- knows the id keeps its own.
+-- A worked run of events for a topic: the numbers are in the order of the endpoints' Puts, and a
+-- subscriber that knows the id keeps its own.
 use Rattle.std.proofs.Common.{◌≡◌, ℕ, List, [], ◌∷◌, ◌++◌, true, false, codes, refl}
 use Rattle.std.specs.Fmt.{digits}
 use Rattle.script_lines.specs.declared.call.Call.{Call}

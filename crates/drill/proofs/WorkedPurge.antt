@@ -1,5 +1,5 @@
--- A worked run of two purges: an event that ended before the moment goes once the Purge is settled, and its id is free
--- at once. Then what a stop takes back of an event that a Purge took.
+-- A worked run of two purges: an event that ended before the moment goes once the Purge is settled,
+-- and its id is free at once. Then what a crash loses of an event that a Purge removed.
 use Rattle.std.proofs.Common.{◌≡◌, ℕ, true, false, List, [], ◌∷◌, ◌++◌, Some, None, codes, refl}
 use Rattle.std.specs.Fmt.{digits}
 use Rattle.relay_types.specs.Records.{History}
@@ -13,7 +13,7 @@ use Rattle.script_lines.specs.declared.reply.Reply.TheVariants as says
 use Rattle.script_lines.specs.declared.reply.Told.TheVariants.{Settled, Unknown}
 use Rattle.desk.specs.World.{World, Nothing, all_records}
 use Rattle.recovery.specs.Left.{records_of_first}
-use Rattle.drill.specs.declared.tickets.Given.TheVariants.{Submission}
+use Rattle.drill.specs.declared.tickets.AnyTicket.TheVariants.{Submission}
 use Rattle.drill.specs.Moves.{Session}
 use Rattle.drill.specs.Runs.{replies_of}
 use Rattle.drill.specs.Restarts.{replies_text}
@@ -81,7 +81,8 @@ written : replies_text replies
 unfolding digits replies
 written = refl
 
--- The outcome and a Purge wait after two settled steps: no event is known any more, and a stop takes both back.
+-- The outcome and a Purge wait after two settled steps: no event is known any more, and a crash
+-- loses both.
 
 abbrev waiting : World
 waiting = world (two_steps ++ outcome_step ++ (Purge 1001 ∷ []) ∷ []) 2

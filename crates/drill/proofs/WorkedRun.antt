@@ -1,5 +1,5 @@
--- A worked run: an endpoint is put, sealed and taken back; an event is taken in, and both are sealed, committed and
--- settled. Then what a stop takes back of an attempt at it.
+-- A worked run: an endpoint is put, sealed and taken back; an event is taken in, and both are
+-- sealed, committed and settled. Then what a crash loses of an attempt at it.
 use Rattle.std.proofs.Common.{◌≡◌, inl, inr, ℕ, true, false, List, [], ◌∷◌, ◌++◌, Some, codes, refl}
 use Rattle.std.specs.Fmt.{digits}
 use Rattle.relay_types.specs.Records.{History}
@@ -17,10 +17,10 @@ use Rattle.script_lines.specs.declared.reply.Told.TheVariants.{Settled}
 use Rattle.desk.specs.World.{World, Out, Nothing, Batch, Receipt, Doubt}
 use Rattle.desk.specs.Claims.{spent_by}
 use Rattle.recovery.specs.Left.{records_of_first}
-use Rattle.drill.specs.declared.tickets.Given.{Given}
-use Rattle.drill.specs.declared.tickets.Given.TheVariants.{Submission, Command}
+use Rattle.drill.specs.declared.tickets.AnyTicket.{AnyTicket}
+use Rattle.drill.specs.declared.tickets.AnyTicket.TheVariants.{Submission, Command}
 use Rattle.drill.specs.Moves.{Session, begun, spent_reply}
-use Rattle.drill.specs.Runs.{Run, replies_of}
+use Rattle.drill.specs.Runs.{CallRun, replies_of}
 use Rattle.drill.specs.Restarts.{replies_text}
 use Rattle.drill.specs.Unrecorded.{unrecorded}
 
@@ -39,13 +39,13 @@ put_step = (Put (codes "a") (codes "http://127.0.0.1:9000/hook") 100 (codes "012
 abbrev both_steps : History
 both_steps = put_step ++ (Accept (codes "a") (codes "msg_1") (codes "{}") 1000 ∷ []) ∷ []
 
-abbrev put_ticket : List Given
+abbrev put_ticket : List AnyTicket
 put_ticket = Command (record { seq = 0 }) ∷ []
 
-abbrev both_tickets : List Given
+abbrev both_tickets : List AnyTicket
 both_tickets = Submission (record { seq = 1; name = codes "a"; id = codes "msg_1" }) ∷ put_ticket
 
--- the world after some steps, of which so many are settled and sealed; a stop leaves so many
+-- the world after some steps, of which so many are settled and sealed; so many survive a crash
 abbrev world : History → (settled sealed : ℕ) → Out → (left clock : ℕ) → World
 world history settled sealed out left clock = record {
   history = history;
@@ -59,7 +59,7 @@ world history settled sealed out left clock = record {
   halted = false;
 }
 
-abbrev at : List Given → World → Session
+abbrev at : List AnyTicket → World → Session
 at tickets w = record { world = w; tickets = tickets }
 
 replies : List Reply
@@ -69,7 +69,7 @@ replies =
     ∷ says.ToldAs Settled ∷ says.Endpoint true 1 0 0 ∷ says.Event Pending (Some 1000) 0
     ∷ []
 
-run : Run begun events replies (at both_tickets (world both_steps 2 2 Nothing 2 1000))
+run : CallRun begun events replies (at both_tickets (world both_steps 2 2 Nothing 2 1000))
 unfolding events replies
 run = (
   at put_ticket (world put_step 0 0 Nothing 0 0),
@@ -120,8 +120,8 @@ written : replies_text replies
 unfolding digits replies
 written = refl
 
--- An attempt at the event is under way. Three calls more: its post reaches nobody, the outcome is sealed, and nobody
--- knows how the commit ends.
+-- An attempt at the event is under way. Three calls more: its post reaches nobody, the outcome is
+-- sealed, and nobody knows how the commit ends.
 
 abbrev row : Row
 row = record { endpoint = codes "a"; delivery = 1; inflight = 1 }
@@ -132,7 +132,7 @@ claimed = record (world both_steps 2 2 Nothing 2 1000) { live = row ∷ [] }
 abbrev three_steps : History
 three_steps = both_steps ++ (Outcome 1 1 0 1002 ∷ []) ∷ []
 
--- a stop leaves the first two steps or all three
+-- the first two steps survive a crash, or all three
 abbrev doubted : World
 doubted = record (world three_steps 2 3 Doubt 2 1002) { left = 2 ∷ 3 ∷ [] }
 
@@ -142,7 +142,7 @@ more = on.Spend 1 1002 Unreached ∷ on.Seal ∷ on.Commit ∷ []
 told_more : List Reply
 told_more = spent_reply (spent_by claimed row Unreached 1002) ∷ says.Sealed 2 3 ∷ says.Refused 5 Store ∷ []
 
-run_on : Run (at both_tickets claimed) more told_more (at both_tickets doubted)
+run_on : CallRun (at both_tickets claimed) more told_more (at both_tickets doubted)
 unfolding more told_more
 run_on = (
   at both_tickets (world three_steps 2 2 Nothing 2 1002),

@@ -1,4 +1,4 @@
--- The desk with what it has handed out, and the sessions for which they stand.
+-- The desk with what it has handed out, and the sessions that they represent.
 use Rattle.std.specs.Prelude.{◌≡◌, ℕ, ◌+◌, ◌≤◌, Bool, true, false, List, Option, Some, None, option_map, count_by, ◌==◌}
 use Rattle.std.specs.Prelude.{[], Vec, vec_len, vec_capacity}
 use Rattle.std.specs.declared.alloc.Global.{Global}
@@ -22,11 +22,11 @@ use Rattle.drill.specs.declared.calls.Core.{Core}
 use Rattle.desk.specs.World.{World, Nothing, Batch, Receipt, Doubt}
 use Rattle.desk.specs.Moves.{sealed_batch, with_halt}
 use Rattle.desk.specs.Desks.{StandsFor, IsHeldOf}
-use Rattle.drill.specs.Moves.{Session, Answer, MayTell, wrong_turn}
-use Rattle.drill.specs.declared.tickets.Given.{Given}
+use Rattle.drill.specs.Moves.{Session, Answer, MayReply, wrong_turn}
+use Rattle.drill.specs.declared.tickets.AnyTicket.{AnyTicket}
 use Rattle.drill.specs.Tickets as tickets
 
--- what is out at the desk is held
+-- the runner holds what is out at the desk
 abbrev pub IsHeld : (mark : ℕ) → World → Held → Type 0
 IsHeld mark w held.Nothing = w.out ≡ Nothing
 IsHeld mark w (held.Batch batch) = (w.out ≡ Batch) × (batch ≡ sealed_batch mark w)
@@ -34,16 +34,17 @@ IsHeld mark w (held.Receipt receipt) = (w.out ≡ Receipt) × (receipt ≡ seale
 IsHeld mark w (held.Doubt doubt) = (w.out ≡ Doubt) × (doubt ≡ doubt_of (sealed_batch mark w))
 
 -- at most one attempt at each delivery is under way
-abbrev pub AreOnce : List Row → Type 0
-AreOnce rows = (delivery : Seq) → count_by (λ row. row.delivery == delivery) rows ≤ 1
+abbrev pub AreOnePerDelivery : List Row → Type 0
+AreOnePerDelivery rows = (delivery : Seq) → count_by (λ row. row.delivery == delivery) rows ≤ 1
 
--- The desk, what is held, the permits and the tickets stand for one session: all that is out is held.
+-- The desk, what is held, the permits and the tickets represent one session. Everything that is out
+-- is held.
 pub record CoreStandsFor {L : Type 0} (core : Core L) (s : Session) : Type 0 where
   pub desk : StandsFor core.desk s.world
   pub held : IsHeld core.desk.waiting.mark s.world core.held
   pub permits : core.permits.items ≡ s.world.live
-  pub once : AreOnce s.world.live
-  pub tickets : tickets.Keeps core.tickets s.tickets
+  pub once : AreOnePerDelivery s.world.live
+  pub tickets : tickets.KeepsTickets core.tickets s.tickets
 
 -- what is held is the batch that is out, in whichever form
 abbrev pub HoldsOut : (out : Option BatchValue) → Held → Type 0
@@ -52,7 +53,8 @@ HoldsOut out (held.Batch batch) = out ≡ Some batch
 HoldsOut out (held.Receipt receipt) = out ≡ Some receipt
 HoldsOut out (held.Doubt doubt) = option_map doubt_of out ≡ Some doubt
 
--- Whatever the store gave back: the permits are those that are out at the desk, and what is held is what is out there.
+-- The permits are those that are out at the desk, and what is held is what is out there, even if
+-- the store returned wrong data.
 pub record HoldsAll {L : Type 0} (core : Core L) : Type 0 where
   pub permits : core.permits.items ≡ core.desk.live
   pub out : HoldsOut (batch_out core.desk.waiting) core.held
@@ -60,12 +62,12 @@ pub record HoldsAll {L : Type 0} (core : Core L) : Type 0 where
 abbrev pub IsCore : {L : Type 0} → Core L → Type 0
 IsCore core = ∥ HoldsAll core ∥₁
 
--- so many more tickets and permits can be kept without memory
+-- so many more tickets and permits can be kept without an allocation
 abbrev pub HasRoom : {L : Type 0} → Core L → (given permits : ℕ) → Type 0
-HasRoom core given permits = tickets.HasRoom core.tickets given
+HasRoom core given permits = tickets.HasTicketRoom core.tickets given
     × (vec_len core.permits + permits ≤ vec_capacity core.permits)
 
--- the most tickets that a call is given: an event for a topic has one for each subscriber
+-- the most tickets that a call can get: an event for a topic gets one for each subscriber
 abbrev pub most_tickets : Call → ℕ
 most_tickets (on.Publish now topic id body) = MAX_ENDPOINTS
 most_tickets event = 1
@@ -83,25 +85,26 @@ abbrev pub HasSeqsOf : Event → Vec ℕ Global → Type 0
 HasSeqsOf (events.Line event) seqs = HasSeqs event seqs
 HasSeqsOf (events.Look asked) seqs = Unit {0}
 
--- a call took the room of so many tickets at most, and of one permit
+-- a call used the room of at most so many tickets, and of at most one permit
 pub record TakesRoom {L : Type 0} (count : ℕ) (old new : Core L) : Type 0 where
   pub tickets : spare old.tickets.given ≤ spare new.tickets.given + count
   pub permits : vec_len new.permits ≤ vec_len old.permits + 1
   pub capacity : vec_capacity new.permits ≡ vec_capacity old.permits
 
--- Room was made: what is kept stays.
-pub record KeepsAll {L : Type 0} (old new : Core L) : Type 0 where
+-- Room was made, and nothing else changed.
+pub record OnlyMakesRoom {L : Type 0} (old new : Core L) : Type 0 where
   pub desk : new.desk ≡ old.desk
   pub held : new.held ≡ old.held
   pub permits : new.permits.items ≡ old.permits.items
-  pub tickets : (given : List Given) → tickets.Keeps old.tickets given → tickets.Keeps new.tickets given
+  pub tickets : (given : List AnyTicket) → tickets.KeepsTickets old.tickets given
+      → tickets.KeepsTickets new.tickets given
 
--- From each session for which they stood, a call was told what this answer may tell, and they stand for what came of
--- it.
+-- From each session that they represented, the call got a reply that this answer allows, and they
+-- represent the session after it.
 pub record CoreAnswers {L : Type 0} (old : Core L) (answer : Session → Answer) (reply : Reply)
     (new : Core L) : Type 0 where
   pub mark : new.desk.waiting.mark ≡ old.desk.waiting.mark
-  pub moves : (s : Session) → CoreStandsFor old s → (next : Session) × MayTell (answer s) reply next
+  pub moves : (s : Session) → CoreStandsFor old s → (next : Session) × MayReply (answer s) reply next
       × CoreStandsFor new next
   pub keeps : IsCore old → IsCore new
 
@@ -110,7 +113,7 @@ abbrev pub is_commit : Call → Bool
 is_commit on.Commit = true
 is_commit event = false
 
--- a receipt, and what a committer that gives up hands over of what is held
+-- the receipt that is held, and what a committer that halts the desk hands over of what is held
 abbrev pub receipt_of : Held → Option BatchValue
 receipt_of (held.Receipt receipt) = Some receipt
 receipt_of _ = None
@@ -121,14 +124,14 @@ given_of (held.Batch batch) = waiting_held.Batch batch
 given_of (held.Receipt receipt) = waiting_held.Nothing
 given_of (held.Doubt doubt) = waiting_held.Doubt doubt
 
--- Where what is handed over is what is out, the desk takes it and is halted; otherwise it goes on as before.
+-- The desk is halted if what is handed over is what is out. Otherwise it goes on as before.
 abbrev pub HandsOver : {L : Type 0} → Core L → waiting.Held → Reply → Core L → Type 0
 HandsOver old given reply new =
     (w : World) → StandsFor old.desk w → IsHeldOf old.desk.waiting.mark w given
     → (reply ≡ says.Halted) × (new.held ≡ old.held) × StandsFor new.desk (with_halt w)
 
-abbrev pub KeepsOn : {L : Type 0} → Core L → waiting.Held → Reply → Core L → Type 0
-KeepsOn old given reply new =
+abbrev pub RefusesHandOver : {L : Type 0} → Core L → waiting.Held → Reply → Core L → Type 0
+RefusesHandOver old given reply new =
     (w : World) → StandsFor old.desk w → ¬ IsHeldOf old.desk.waiting.mark w given
     → (reply ≡ wrong_turn) × StandsFor new.desk w
 

@@ -1,4 +1,4 @@
--- The calls of a run: what each is told, and how far the replies show records to be settled.
+-- The calls of a run, the replies to them, and how many records the replies show as settled.
 use Rattle.std.specs.Prelude.{◌≡◌, ℕ, ◌+◌, ◌≤◌, max, true, List, [], ◌∷◌, length, take, is_some}
 use Rattle.std.specs.List.{AllByRecursion}
 use Rattle.relay_types.specs.declared.record.Record.{Record}
@@ -17,9 +17,9 @@ use Rattle.drill.specs.declared.events.Look.TheVariants as look
 use Rattle.drill.specs.declared.events.Reply.{Reply}
 use Rattle.drill.specs.declared.events.Reply.TheVariants as reply
 use Rattle.drill.specs.Moves.{Session, told_as}
-use Rattle.drill.specs.Runs.{Move}
+use Rattle.drill.specs.Runs.{CallMove}
 
--- What a look is told.
+-- The reply to a look.
 abbrev pub look_reply : World → Look → Reply
 look_reply w (look.Told ticket) = reply.Line (says.ToldAs (told_as (told w ticket)))
 look_reply w (look.ToldCommand ticket) = reply.Line (says.ToldAs (told_as (told_command w ticket)))
@@ -30,13 +30,14 @@ look_reply w look.SettledRecords = reply.Count (length (settled_records w))
 look_reply w look.IsHalted = reply.Flag w.halted
 
 -- From s, the core may give this reply to the event and go on to next.
-abbrev pub Makes : Session → Event → Reply → Session → Type 0
-Makes s (on.Line event) told next = (line : line_reply.Reply) × (told ≡ reply.Line line) × Move s event line next
-Makes s (on.Look asked) told next = (told ≡ look_reply s.world asked) × (next ≡ s)
+abbrev pub EventMove : Session → Event → Reply → Session → Type 0
+EventMove s (on.Line event) told next = (line : line_reply.Reply) × (told ≡ reply.Line line)
+    × CallMove s event line next
+EventMove s (on.Look asked) told next = (told ≡ look_reply s.world asked) × (next ≡ s)
 
--- The reply shows that the records below this number are settled. A ticket that is told Settled and a job show a
--- record, and with it those before it; a settlement shows all that it settled; a page, a body and a settled count show
--- all that was settled.
+-- The reply shows that the records below this number are settled. A ticket that is reported as
+-- Settled, and a job, show a record and those before it. A settlement shows all that it settled. A
+-- page, a body and a settled count show everything that was settled.
 abbrev pub shown_by_line : World → line.Call → line_reply.Reply → ℕ
 shown_by_line w (on_line.Told seq) (says.ToldAs Settled) = seq + 1
 shown_by_line w (on_line.Claim now) (says.Permit delivery endpoint id attempt at inflight) = delivery + 1
@@ -59,24 +60,25 @@ shown w (on.Line event) (reply.Line told) = shown_by_line w event told
 shown w (on.Line event) other = 0
 shown w (on.Look asked) told = shown_by_look w asked told
 
--- The core may give these replies to these events, one after another, and they show that the records below this number
--- are settled.
-abbrev pub Runs : Session → List Event → List Reply → Session → (acknowledged : ℕ) → Type 0
-Runs s [] [] last acknowledged = (last ≡ s) × (acknowledged ≡ 0)
-Runs s (event ∷ events) (told ∷ replies) last acknowledged = (next : Session) × (later : ℕ)
-    × Makes s event told next × Runs next events replies last later
+-- The core may give these replies to these events, one after another, and they show that the
+-- records below this number are settled.
+abbrev pub EventRun : Session → List Event → List Reply → Session → (acknowledged : ℕ) → Type 0
+EventRun s [] [] last acknowledged = (last ≡ s) × (acknowledged ≡ 0)
+EventRun s (event ∷ events) (told ∷ replies) last acknowledged = (next : Session) × (later : ℕ)
+    × EventMove s event told next × EventRun next events replies last later
     × (acknowledged ≡ max (shown s.world event told) later)
-Runs s [] (told ∷ replies) last acknowledged = ⊥
-Runs s (event ∷ events) [] last acknowledged = ⊥
+EventRun s [] (told ∷ replies) last acknowledged = ⊥
+EventRun s (event ∷ events) [] last acknowledged = ⊥
 
 -- so many records are there, and they are the first of these
 abbrev pub HasFirst : (count : ℕ) (records there : List Record) → Type 0
 HasFirst count records there = (count ≤ length there) × (take count there ≡ take count records)
 
--- Whatever a stop may leave of the world has the first so many of these records, in their places.
+-- Whatever survives a crash of the world has the first so many of these records, in the same
+-- places.
 abbrev pub KeepsFirst : World → (count : ℕ) (records : List Record) → Type 0
 KeepsFirst w count records = AllByRecursion (λ steps. HasFirst count records (records_of_first w steps)) w.left
 
--- Whatever a stop may leave has all records below this number, in their places.
-abbrev pub IsKept : World → (acknowledged : ℕ) → Type 0
-IsKept w acknowledged = KeepsFirst w acknowledged (all_records w)
+-- Whatever survives a crash has all records below this number, in the same places.
+abbrev pub SurvivesCrash : World → (acknowledged : ℕ) → Type 0
+SurvivesCrash w acknowledged = KeepsFirst w acknowledged (all_records w)

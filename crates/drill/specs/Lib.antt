@@ -9,7 +9,7 @@ pub mod Worlds
 pub mod Players
 pub mod Restarts
 pub mod Replays
-pub mod Places
-pub mod Within
+pub mod Memory
+pub mod BesideCommit
 pub mod Refusals
-pub mod Later
+pub mod AfterCrashes

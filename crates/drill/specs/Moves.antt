@@ -1,4 +1,5 @@
--- The moves of a script's calls: what each is told, and the session after it. What the desk answers is told by a reply.
+-- The moves of a script's calls: the reply to each, and the session after it. A reply represents
+-- the desk's answer.
 use Rattle.std.specs.Prelude.{◌≡◌, ℕ, ◌+◌, ◌==◌, List, [], ◌∷◌, ◌++◌, length, find, map, reverse, Option, Some, None}
 use Rattle.std.specs.Prelude.{Result, Ok, Err, ◌⊎◌}
 use Rattle.relay_types.specs.Values.{Seq, Seconds}
@@ -29,33 +30,33 @@ use Rattle.desk.specs.Claims.{JobValue, SpentValue, claim, limits, spent_by, wit
 use Rattle.desk.specs.Queries.{EndpointShown, told, told_command, event_page, endpoint_page}
 use Rattle.desk.specs.Moves as desk
 use Rattle.desk.specs.World.{World, Out, Nothing, Batch, Receipt, Doubt, settled_records, sealed_records}
-use Rattle.drill.specs.declared.tickets.Given.{Given}
-use Rattle.drill.specs.declared.tickets.Given.TheVariants.{Submission, Command}
+use Rattle.drill.specs.declared.tickets.AnyTicket.{AnyTicket}
+use Rattle.drill.specs.declared.tickets.AnyTicket.TheVariants.{Submission, Command}
 use Rattle.drill.specs.Tickets.{seq_of, find_ticket}
 
--- What a script has come to: the world, and the tickets that were given since the opening, the newest first.
+-- The state of a script: the world, and the tickets since the opening, the newest first.
 pub record Session : Type 0 where
   pub world : World
-  pub tickets : List Given
+  pub tickets : List AnyTicket
 
 -- the session in which a script over a store without tables begins
 abbrev pub begun : Session
 begun = record { world = desk.opened [] 0; tickets = [] }
 
--- What a call is told where memory and the store serve it, and the session after it; and each of what it may be told,
--- with the session after that, where they don't.
+-- The reply to a call and the session after it, if no allocation fails and the store doesn't; and
+-- each reply that is possible if one fails, with the session after it.
 pub record Answer : Type 0 where
   pub reply : Reply
   pub next : Session
   pub unserved : List (Reply × Session)
 
--- From a session, a call whose answer this is may be told this reply, and go on to next.
+-- A call with this answer may get this reply, and lead to next.
 abbrev pub IsOneOf : List (Reply × Session) → Reply → Session → Type 0
 IsOneOf [] reply next = ⊥
 IsOneOf (one ∷ others) reply next = ((reply ≡ one.0) × (next ≡ one.1)) ⊎ IsOneOf others reply next
 
-abbrev pub MayTell : Answer → Reply → Session → Type 0
-MayTell answer reply next = ((reply ≡ answer.reply) × (next ≡ answer.next)) ⊎ IsOneOf answer.unserved reply next
+abbrev pub MayReply : Answer → Reply → Session → Type 0
+MayReply answer reply next = ((reply ≡ answer.reply) × (next ≡ answer.next)) ⊎ IsOneOf answer.unserved reply next
 
 -- Replies
 
@@ -78,7 +79,7 @@ fault_of desk_fault.OutOfMemory = fault.OutOfMemory
 abbrev pub refusal_reply : Refusal → Reply
 refusal_reply refusal = says.Refused refusal.number (fault_of refusal.fault)
 
-abbrev pub staged_reply : {A : Type 0} → (of : A → Given) → Result A Refusal → Reply
+abbrev pub staged_reply : {A : Type 0} → (of : A → AnyTicket) → Result A Refusal → Reply
 staged_reply of (Ok ticket) = says.Staged (seq_of (of ticket))
 staged_reply of (Err refusal) = refusal_reply refusal
 
@@ -112,7 +113,7 @@ told_as desk_told.Settled = as_told.Settled
 told_as desk_told.Waiting = as_told.Waiting
 told_as desk_told.Unknown = as_told.Unknown
 
-abbrev pub told_reply : World → Option Given → Reply
+abbrev pub told_reply : World → Option AnyTicket → Reply
 told_reply w None = says.NoTicket
 told_reply w (Some (Submission ticket)) = says.ToldAs (told_as (told w ticket))
 told_reply w (Some (Command ticket)) = says.ToldAs (told_as (told_command w ticket))
@@ -126,28 +127,28 @@ abbrev pub event_reply : Option Row → Reply
 event_reply None = says.Absent
 event_reply (Some row) = says.Event row.state row.due row.attempts
 
--- the reply where what is handed in isn't what is out
+-- the reply if what is handed in isn't what is out
 abbrev pub wrong_turn : Reply
 wrong_turn = says.Refused 1 fault.WrongTurn
 
 -- Answers
 
--- the call is told this, and only the world may change
+-- the call gets this reply, and only the world may change
 abbrev pub moves : Session → Reply → World → Answer
 moves s reply next = record { reply = reply; next = record s { world = next }; unserved = [] }
 
--- the call is told this, and changes nothing
+-- the call gets this reply, and changes nothing
 abbrev pub stays : Session → Reply → Answer
 stays s reply = moves s reply s.world
 
--- what the desk refuses as out of memory, by this number, if it takes any
+-- the desk's refusal as out of memory, by this number, if the call allocates
 abbrev pub lacks : Session → Option ℕ → List (Reply × Session)
 lacks s None = []
 lacks s (Some number) = (says.Refused number fault.OutOfMemory, s) ∷ []
 
--- the reply to the desk's answer, and what is kept of what it gave
+-- the reply to the desk's answer, and the tickets that are kept of it
 abbrev pub gives : {A : Type 0} → (told : Result A Refusal → Reply)
-    → (kept : Result A Refusal → List Given → List Given) → Session → desk.Answer A → Answer
+    → (kept : Result A Refusal → List AnyTicket → List AnyTicket) → Session → desk.Answer A → Answer
 gives told kept s answer = record {
   reply = told answer.reply;
   next = record { world = answer.next; tickets = kept answer.reply s.tickets };
@@ -155,15 +156,15 @@ gives told kept s answer = record {
 }
 
 -- the ticket is kept, if one was given
-abbrev pub with_ticket : {A : Type 0} → (of : A → Given) → Result A Refusal → List Given → List Given
+abbrev pub with_ticket : {A : Type 0} → (of : A → AnyTicket) → Result A Refusal → List AnyTicket → List AnyTicket
 with_ticket of (Ok ticket) tickets = of ticket ∷ tickets
 with_ticket of (Err refusal) tickets = tickets
 
-abbrev pub stages : {A : Type 0} → (of : A → Given) → Session → desk.Answer A → Answer
+abbrev pub stages : {A : Type 0} → (of : A → AnyTicket) → Session → desk.Answer A → Answer
 stages of s answer = gives (staged_reply of) (with_ticket of) s answer
 
 -- the tickets of all subscribers are kept, if they were given
-abbrev pub with_tickets : Result (List Ticket) Refusal → List Given → List Given
+abbrev pub with_tickets : Result (List Ticket) Refusal → List AnyTicket → List AnyTicket
 with_tickets (Ok given) tickets = reverse (map Submission given) ++ tickets
 with_tickets (Err refusal) tickets = tickets
 
@@ -173,7 +174,7 @@ publishes s answer = gives published_reply with_tickets s answer
 abbrev pub commands : Session → desk_command.Command → Answer
 commands s command = stages Command s (desk.change s.world command)
 
--- what the desk answers is told so
+-- the reply to the desk's answer, of which no ticket is kept
 abbrev pub tells : {A : Type 0} → (told : Result A Refusal → Reply) → Session → desk.Answer A → Answer
 tells told s answer = record {
   reply = told answer.reply;
@@ -181,7 +182,7 @@ tells told s answer = record {
   unserved = lacks s answer.memory;
 }
 
--- A batch has the mark of its opening, of which no reply tells: any mark will do.
+-- A batch has the mark of its opening. No reply shows it, so any mark will do.
 abbrev pub seals : Session → Answer
 seals s = tells seal_reply s (desk.seal 0 s.world)
 
@@ -189,21 +190,22 @@ seals s = tells seal_reply s (desk.seal 0 s.world)
 abbrev pub permit_of : (w : World) (delivery : Seq) → Option under_way.Row
 permit_of w delivery = find (λ row. row.delivery == delivery) w.live
 
--- the end of an attempt, where this is its permit
+-- the end of the attempt with this permit
 abbrev pub spends : Session → (permit : Option under_way.Row) → PostResult → (now : Seconds) → Answer
 spends s None post now = stays s says.NoPermit
 spends s (Some row) post now = moves s (spent_reply (spent_by s.world row post now))
     (with_attempt_over s.world row post now)
 
--- the store has the whole batch, and a stop leaves it
+-- the store has the whole batch, and it survives a crash
 abbrev pub with_receipt : World → World
 with_receipt w = record w { out = Receipt; left = w.sealed ∷ [] }
 
--- a commit that the store doesn't finish: a stop leaves what was there before, or the whole batch too
+-- a commit that the store doesn't finish: a crash leaves what was there before, or also the whole
+-- batch
 abbrev pub in_doubt : World → World
 in_doubt w = record w { out = Doubt; left = w.settled ∷ w.sealed ∷ [] }
 
--- A commit without memory leaves all as it was.
+-- A commit that is out of memory leaves everything as it was.
 abbrev pub commits_batch : Session → Answer
 commits_batch s = record {
   reply = says.Committed (length (sealed_records s.world));
@@ -214,7 +216,7 @@ commits_batch s = record {
       ∷ [];
 }
 
--- what a turn is told by what is out
+-- the replies to the calls on a batch, by what is out
 
 abbrev pub commits : Session → Out → Answer
 commits s Batch = commits_batch s
@@ -236,7 +238,7 @@ abbrev pub halts : Session → Out → Answer
 halts s Receipt = stays s wrong_turn
 halts s _ = moves s says.Halted (desk.with_halt s.world)
 
--- What a call is told in a session.
+-- The answer to a call in a session.
 abbrev pub answer_to : Session → Call → Answer
 answer_to s (on.Put name target max secrets) = commands s (PutEndpoint name target max secrets)
 answer_to s (on.Secrets name secrets) = commands s (SetSecrets name secrets)

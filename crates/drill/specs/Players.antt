@@ -1,4 +1,4 @@
--- Where a script stands between two lines.
+-- The states of a script between two lines.
 use Rattle.std.specs.Prelude.{Bool, true, false, not}
 use Rattle.sqlite.specs.Store.{Ghosts}
 use Rattle.drill.specs.declared.player.State.{State}

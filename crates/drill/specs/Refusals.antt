@@ -8,10 +8,11 @@ use Rattle.desk.specs.World.{World, Receipt}
 use Rattle.drill.specs.declared.events.Event.{Event}
 use Rattle.drill.specs.declared.events.Event.TheVariants as on
 use Rattle.drill.specs.declared.events.Reply.TheVariants as reply
-use Rattle.drill.specs.Events.{Makes}
+use Rattle.drill.specs.Events.{EventMove}
 use Rattle.drill.specs.Moves.{Session}
 
--- The store gets each batch once, in its turn, legal, and while it is open; a receipt is never given up.
+-- The store gets each batch once, in its turn, legal, and while it is open; a receipt is never
+-- given up.
 abbrev pub CanRefuse : World → Event → Fault → Type 0
 CanRefuse w event fault.Closed = ⊥
 CanRefuse w event fault.OutOfTurn = ⊥
@@ -19,8 +20,9 @@ CanRefuse w event fault.Illegal = ⊥
 CanRefuse w event fault.WrongTurn = (event ≡ on.Line on_line.Halt) × (w.out ≡ Receipt)
 CanRefuse w event other = Unit {0}
 
--- A law: no move is refused as Closed, OutOfTurn or Illegal, and as WrongTurn a halt alone, while a receipt is out.
+-- A law: no move is refused as Closed, OutOfTurn or Illegal. Only a halt while a receipt is out is
+-- refused as WrongTurn.
 abbrev pub RefusalsOfMoves : Type 0
 RefusalsOfMoves =
     (s next : Session) (event : Event) (number : ℕ) (fault : Fault)
-    → Makes s event (reply.Line (says.Refused number fault)) next → CanRefuse s.world event fault
+    → EventMove s event (reply.Line (says.Refused number fault)) next → CanRefuse s.world event fault

@@ -1,4 +1,4 @@
--- What the runner keeps between two lines, and the sessions for which it stands.
+-- What the runner keeps between two lines, and the sessions that it represents.
 use Rattle.std.specs.Prelude.{◌≡◌, ◌++◌, List, IsTrue}
 use Rattle.sqlite.specs.Store.{Ghosts}
 use Rattle.sqlite.specs.Held as store
@@ -17,24 +17,24 @@ use Rattle.script_lines.specs.declared.reply.Reply.TheVariants as says
 use Rattle.drill.specs.declared.held.Held.{Held}
 use Rattle.drill.specs.declared.held.Held.TheVariants as held
 use Rattle.drill.specs.declared.calls.Core.{Core}
-use Rattle.drill.specs.Moves.{Session, Answer, MayTell}
+use Rattle.drill.specs.Moves.{Session, Answer, MayReply}
 use Rattle.recovery.specs.Left.{IsOpenAt, VaultStandsFor}
 use Rattle.drill.specs.Cores.{CoreStandsFor}
 
--- the core and the store stand for one session
+-- the core and the store represent one session
 pub record RunStandsFor {L S : Type 0} (g : Ghosts S) (core : Core L) (vault : VaultValue S)
     (s : Session) : Type 0 where
   pub stands : CoreStandsFor core s
   pub holds : VaultStandsFor g vault s.world
   pub mark : core.desk.waiting.mark ≡ vault.mark
 
--- From each session for which core and store stood, a call was told what this answer may tell, and they stand for
--- what came of it.
+-- From each session that core and store represented, the call got a reply that this answer allows,
+-- and they represent the session after it.
 abbrev pub Answers : {L S : Type 0} → Ghosts S → Core L → VaultValue S → (Session → Answer) → Reply
     → Core L → VaultValue S → Type 0
 Answers g old vault answer reply new later =
     (s : Session) → RunStandsFor g old vault s
-    → (next : Session) × MayTell (answer s) reply next × RunStandsFor g new later next
+    → (next : Session) × MayReply (answer s) reply next × RunStandsFor g new later next
 
 -- the reply to a commit that changed nothing
 abbrev pub unchanged_reply : Unchanged → Reply
@@ -43,19 +43,19 @@ unchanged_reply why.OutOfTurn = says.Refused 2 fault.OutOfTurn
 unchanged_reply why.Illegal = says.Refused 3 fault.Illegal
 unchanged_reply why.OutOfMemory = says.Refused 4 fault.OutOfMemory
 
--- How the store takes a legal batch that goes on with the history it holds. Which of receipt, batch and doubt is held
--- afterwards says how the commit ended.
-abbrev pub EndsAs : {S : Type 0} → Ghosts S → VaultValue S → List Record → BatchValue → Held → Reply → Type 0
-EndsAs g vault records batch (held.Receipt receipt) reply = (receipt ≡ batch) × (reply ≡ says.Committed vault.next)
+-- How the commit of a legal batch ends that continues the store's history. Which of receipt, batch
+-- and doubt is held afterwards says how it ended.
+abbrev pub EndsCommit : {S : Type 0} → Ghosts S → VaultValue S → List Record → BatchValue → Held → Reply → Type 0
+EndsCommit g vault records batch (held.Receipt receipt) reply = (receipt ≡ batch) × (reply ≡ says.Committed vault.next)
     × IsOpenAt g vault (records ++ records_of batch.steps)
-EndsAs g vault records batch (held.Batch back) reply = (back ≡ batch) × (reply ≡ says.Refused 4 fault.OutOfMemory)
+EndsCommit g vault records batch (held.Batch back) reply = (back ≡ batch) × (reply ≡ says.Refused 4 fault.OutOfMemory)
     × IsOpenAt g vault records
-EndsAs g vault records batch (held.Doubt doubt) reply = (doubt ≡ doubt_of batch)
+EndsCommit g vault records batch (held.Doubt doubt) reply = (doubt ≡ doubt_of batch)
     × (reply ≡ says.Refused 5 fault.Store)
     × IsTrue vault.closed × RestsInDoubt (store.state g vault.conn) records (records_of batch.steps)
-EndsAs g vault records batch held.Nothing reply = ⊥
+EndsCommit g vault records batch held.Nothing reply = ⊥
 
 -- what a commit of the vault's next batch answers
-abbrev pub CommitsSo : {S : Type 0} → Ghosts S → VaultValue S → VaultValue S → BatchValue → Held → Reply → Type 0
-CommitsSo g old new batch now reply = (records : List Record) → IsOpenAt g old records → IsNext old batch
-    → IsLegal (records ++ records_of batch.steps) → EndsAs g new records batch now reply
+abbrev pub CommitsNext : {S : Type 0} → Ghosts S → VaultValue S → VaultValue S → BatchValue → Held → Reply → Type 0
+CommitsNext g old new batch now reply = (records : List Record) → IsOpenAt g old records → IsNext old batch
+    → IsLegal (records ++ records_of batch.steps) → EndsCommit g new records batch now reply

@@ -18,7 +18,7 @@ use Rattle.drill.specs.declared.events.Event.{Event}
 use Rattle.drill.specs.declared.events.Reply.{Reply}
 use Rattle.drill.specs.declared.runs.World as left
 use Rattle.drill.specs.Moves.{Session}
-use Rattle.drill.specs.Events.{Makes, Runs, IsKept}
+use Rattle.drill.specs.Events.{EventMove, EventRun, SurvivesCrash}
 use Rattle.drill.specs.Unrecorded.{ArePendingAgain}
 use Rattle.drill.specs.Runners.{RunStandsFor}
 
@@ -30,18 +30,20 @@ IsOpening w = (history : History) × (clock : Seconds) × (w ≡ opened history 
 abbrev pub session_of : World → Session
 session_of w = record { world = w; tickets = [] }
 
--- From each session for which core and store stood, the event was told this, and they stand for what came of it.
-abbrev pub TakesEvent : {L S : Type 0} → Ghosts S → Core L → VaultValue S → Event → Reply → Core L → VaultValue S
+-- From each session that core and store represented, the event got this reply, and they represent
+-- the session after it.
+abbrev pub AnswersEvent : {L S : Type 0} → Ghosts S → Core L → VaultValue S → Event → Reply → Core L → VaultValue S
     → Type 0
-TakesEvent g old vault event told new later =
-    (s : Session) → RunStandsFor g old vault s → (next : Session) × Makes s event told next
+AnswersEvent g old vault event told new later =
+    (s : Session) → RunStandsFor g old vault s → (next : Session) × EventMove s event told next
     × RunStandsFor g new later next
 
--- The same of events that come one after another. What their replies show is settled.
-abbrev pub TakesEvents : {L S : Type 0} → Ghosts S → Core L → VaultValue S → List Event → List Reply → Core L
+-- The same for events one after another. What their replies show is settled.
+abbrev pub AnswersEvents : {L S : Type 0} → Ghosts S → Core L → VaultValue S → List Event → List Reply → Core L
     → VaultValue S → Type 0
-TakesEvents g old vault events replies new later = (s : Session) → RunStandsFor g old vault s
-    → (last : Session) × (acknowledged : ℕ) × Runs s events replies last acknowledged × RunStandsFor g new later last
+AnswersEvents g old vault events replies new later = (s : Session) → RunStandsFor g old vault s
+    → (last : Session) × (acknowledged : ℕ) × EventRun s events replies last acknowledged
+    × RunStandsFor g new later last
     × (acknowledged ≤ length (settled_records last.world))
 
 -- what is out in the world was handed out: a receipt, a batch or a doubt
@@ -52,26 +54,29 @@ IsOut mark w None (held.Doubt doubt) = (w.out ≡ Doubt) × (doubt ≡ doubt_of 
 IsOut mark w (Some receipt) held.Nothing = (w.out ≡ Receipt) × (receipt ≡ sealed_batch mark w)
 IsOut mark w (Some receipt) given = ⊥
 
--- The second world goes on from the first: more steps may have come to its history, and no fewer are settled.
+-- The second world goes on from the first: more steps may have come to its history, and no fewer
+-- are settled.
 pub record GoesOn (w next : World) : Type 0 where
   pub more : History
   pub history : next.history ≡ w.history ++ more
   pub settled : w.settled ≤ next.settled
 
--- Whatever a stop may leave of the world begins with these records.
-abbrev pub AreInFront : (records : List Record) → World → Type 0
-AreInFront records w = AllByRecursion (λ steps. (more : List Record) × (records_of_first w steps ≡ records ++ more))
+-- Whatever survives a crash of the world begins with these records.
+abbrev pub ArePrefixAfterCrash : (records : List Record) → World → Type 0
+ArePrefixAfterCrash records w = AllByRecursion (λ steps. (more : List Record)
+    × (records_of_first w steps ≡ records ++ more))
     w.left
 
--- These are the replies of a run of the events from the session, and what is left stands for its last world: the desk,
--- the permits of the attempts under way, what is out, and the store. This world goes on from the session's, and a stop
--- leaves the store as it says: each time with all records of the session in front, with all that were shown, and with
--- each event pending whose attempt has no outcome there.
+-- These are the replies of a run of the events from the session. What is left represents the run's
+-- last world: the desk, the permits of the attempts under way, what is out, and the store. The last
+-- world goes on from the session's. It says what survives a crash of the store: that begins with
+-- all records of the session, it has all that were shown, and each event whose attempt has no
+-- outcome there is pending.
 pub record IsRunFrom {L S : Type 0} (g : Ghosts S) (s : Session) (events : List Event) (to : left.World L S) :
     Type 0 where
   pub last : Session
   pub acknowledged : ℕ
-  pub runs : Runs s events to.replies.items last acknowledged
+  pub runs : EventRun s events to.replies.items last acknowledged
   pub desk : StandsFor to.desk last.world
   pub permits : to.permits.items ≡ last.world.live
   pub out : IsOut to.desk.waiting.mark last.world to.receipt to.held
@@ -79,13 +84,13 @@ pub record IsRunFrom {L S : Type 0} (g : Ghosts S) (s : Session) (events : List 
   pub mark : to.desk.waiting.mark ≡ to.vault.mark
   pub goes : GoesOn s.world last.world
   pub leaves : KeepsRows g to.vault.conn last.world
-  pub begins : AreInFront (all_records s.world) last.world
-  pub kept : IsKept last.world acknowledged
+  pub begins : ArePrefixAfterCrash (all_records s.world) last.world
+  pub kept : SurvivesCrash last.world acknowledged
   pub again : ArePendingAgain last.world
 
--- A law of runs from any opening: whatever a stop may leave, each event with an attempt that has no outcome there is
--- pending there.
+-- A law of runs from any opening: in whatever survives a crash, each event with an attempt that has
+-- no outcome there is pending.
 abbrev pub AreAttemptsPendingAgain : Type 0
 AreAttemptsPendingAgain =
     (w : World) (events : List Event) (replies : List Reply) (last : Session) (acknowledged : ℕ)
-    → IsOpening w → Runs (session_of w) events replies last acknowledged → ArePendingAgain last.world
+    → IsOpening w → EventRun (session_of w) events replies last acknowledged → ArePendingAgain last.world

@@ -47,7 +47,7 @@ impl<L: Ledger> Core<L> {
     }
 }
 
-// Where the permit of the delivery stands.
+// The place of the delivery's permit.
 fn place_of<L: Ledger>(permits: &[Permit<L>], delivery: u64) -> Option<usize>
     ensures { result ≡ position (λ row. row.delivery == delivery) permits.now }
 {

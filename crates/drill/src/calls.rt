@@ -5,14 +5,14 @@ ghost use Rattle.desk.specs.World.{World, Nothing};
 ghost use Rattle.desk.specs.Desks.{HasNothingOut, StandsFor};
 ghost use Rattle.drill.specs.Moves.{answer_to};
 ghost use Rattle.drill.specs.Cores.{CoreStandsFor, CoreAnswers, IsCore, HasRoom, HasSeqs, HasSeqsOf, TakesRoom};
-ghost use Rattle.drill.specs.Cores.{KeepsAll, is_commit, most_tickets, most_tickets_of};
+ghost use Rattle.drill.specs.Cores.{OnlyMakesRoom, is_commit, most_tickets, most_tickets_of};
 ghost use Rattle.drill.specs.Runners.{Answers};
-ghost use Rattle.drill.specs.Worlds.{TakesEvent};
+ghost use Rattle.drill.specs.Worlds.{AnswersEvent};
 ghost use Rattle.recovery.specs.Left.{IsCleanAt};
 
 use crate::events;
 use crate::held::Held;
-use crate::looking::look_at;
+use crate::queries::look_at;
 use crate::tickets::Tickets;
 use desk::{Command, Desk};
 use permits::{Permit, Pool};
@@ -50,7 +50,7 @@ impl<L: Ledger> Core<L> {
 
     // Makes room for so many tickets and permits.
     pub(crate) fn reserve(&mut self, tickets: usize, permits: usize) -> Result<(), AllocError>
-        ensures same { KeepsAll self.old self.new }
+        ensures same { OnlyMakesRoom self.old self.new }
         ensures room { OnOk result (HasRoom self.new tickets permits) }
     {
         self.tickets.reserve(tickets)?;
@@ -90,7 +90,7 @@ impl<L: Ledger> Core<L> {
         requires seqs { HasSeqsOf event seqs }
         requires core { IsCore self.old }
         ensures answers { IsCleanAt S.Store vault.new.conn
-            → TakesEvent S.Store self.old vault.old event result self.new vault.new }
+            → AnswersEvent S.Store self.old vault.old event result self.new vault.new }
         ensures core { IsCore self.new }
         ensures room { TakesRoom (most_tickets_of event) self.old self.new }
         ensures clean { IsCleanAt S.Store vault.new.conn → IsCleanAt S.Store vault.old.conn }

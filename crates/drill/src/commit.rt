@@ -1,7 +1,7 @@
 //! A commit of the batch that is held.
 ghost use Rattle.std.specs.Prelude.{◌≡◌};
 ghost use Rattle.drill.specs.Cores.{IsOfBatch};
-ghost use Rattle.drill.specs.Runners.{CommitsSo, unchanged_reply};
+ghost use Rattle.drill.specs.Runners.{CommitsNext, unchanged_reply};
 ghost use Rattle.recovery.specs.Left.{IsCleanAt};
 
 use crate::held::Held;
@@ -9,12 +9,12 @@ use script_lines::{Fault, Reply};
 use spool::{Batch, CommitEnd, Unchanged, Vault};
 use sqlite::Alter;
 
-// Commits the batch: what is held then, and the reply.
+// Commits the batch: returns what is held then, and the reply.
 pub(crate) fn commit_batch<S: Alter>(vault: &mut Vault<S>, batch: Batch) -> (Held, Reply)
     ensures mark { vault.new.mark ≡ vault.old.mark }
     ensures held { IsOfBatch batch result.0 }
     ensures commits { IsCleanAt S.Store vault.new.conn
-        → CommitsSo S.Store vault.old vault.new batch result.0 result.1 }
+        → CommitsNext S.Store vault.old vault.new batch result.0 result.1 }
     ensures clean { IsCleanAt S.Store vault.new.conn → IsCleanAt S.Store vault.old.conn }
 {
     match vault.commit(batch) {

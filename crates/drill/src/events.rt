@@ -1,4 +1,4 @@
-//! The calls of a run, and what each is told.
+//! The calls of a run, and the replies to them.
 ghost use Rattle.std.specs.Prelude.{◌≡◌, IfOk};
 
 use desk::{CommandTicket, Ticket, Totals};
@@ -32,7 +32,7 @@ pub enum Look {
     IsHalted,
 }
 
-/// What a call was told.
+/// The reply to a call.
 #[derive(Drop)]
 pub enum Reply {
     /// What its line prints.

@@ -23,7 +23,7 @@ impl Held {
         }
     }
 
-    // A receipt, or what a committer that gives up hands over.
+    // A receipt, or what a committer that halts the desk hands over.
     pub(crate) fn parts(self) -> (Option<Receipt>, group_commit::Held)
         ensures receipt { result.0 ≡ receipt_of self }
         ensures given { result.1 ≡ given_of self }

@@ -3,14 +3,15 @@
 #![tactic(auto)]
 
 mod attempts;
+mod batches;
 mod calls;
 mod commit;
 mod events;
 mod held;
-mod looking;
 mod player;
 mod player_lines;
 mod prepared;
+mod queries;
 mod replies;
 mod requests;
 mod runner;
@@ -18,7 +19,6 @@ mod runs;
 mod scripts;
 mod theorems;
 mod tickets;
-mod turns;
 mod unrecorded;
 
 pub use crate::events::{Event, Look, Reply};

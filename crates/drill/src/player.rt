@@ -1,4 +1,4 @@
-//! The player of scripts: the runner between two lines, over the stops among them.
+//! The player of scripts: the runner between two lines, also after stops.
 ghost use Rattle.std.specs.Prelude.{IsTrue};
 ghost use Rattle.drill.specs.Players.{is_there};
 
@@ -12,9 +12,9 @@ pub(crate) struct Player<L: Ledger, S: Alter> {
     ghost there: { IsTrue (is_there state) },
 }
 
-/// Where a script stands.
+/// The state of a script.
 pub(crate) enum State<L: Ledger, S: Alter> {
-    /// It goes on.
+    /// The store is open.
     Open(Runner<L, S>),
     /// The store wasn't opened again.
     Shut(Connection<S>),

@@ -2,7 +2,7 @@
 ghost use Rattle.std.specs.Prelude.{◌≡◌, ◌≢◌, false, Err, IfOk};
 ghost use Rattle.script_lines.specs.declared.call.Line.TheVariants as as_line;
 ghost use Rattle.recovery.specs.Left.{IsCleanAt};
-ghost use Rattle.drill.specs.Replays.{IsConnOf, IsStateClean, TakesLine};
+ghost use Rattle.drill.specs.Replays.{IsConnOf, IsStateClean, AnswersLine};
 ghost use Rattle.drill.specs.declared.player.State.TheVariants.{Open};
 
 use crate::player::{Player, State};
@@ -26,7 +26,7 @@ impl<L: Ledger, S: Alter> Player<L, S> {
     // Makes one call.
     pub(crate) fn call(&mut self, alloc: Global, event: Call) -> Result<Reply, LineFault>
         ensures takes { IsStateClean S.Store self.new.state
-            → IfOk result (λ reply. TakesLine S.Store self.old.state (as_line.Call event) reply self.new.state) }
+            → IfOk result (λ reply. AnswersLine S.Store self.old.state (as_line.Call event) reply self.new.state) }
         ensures fault { result ≢ Err LineFault.Bad }
         ensures clean { IsStateClean S.Store self.new.state → IsStateClean S.Store self.old.state }
     {
@@ -39,7 +39,7 @@ impl<L: Ledger, S: Alter> Player<L, S> {
     // Closes the desk with all that is out, and opens the store again.
     pub(crate) fn stop(&mut self, alloc: Global) -> Result<Reply, LineFault>
         ensures takes { IsStateClean S.Store self.new.state
-            → IfOk result (λ reply. TakesLine S.Store self.old.state as_line.Stop reply self.new.state) }
+            → IfOk result (λ reply. AnswersLine S.Store self.old.state as_line.Stop reply self.new.state) }
         ensures fault { result ≢ Err LineFault.Bad }
         ensures clean { IsStateClean S.Store self.new.state → IsStateClean S.Store self.old.state }
     {
@@ -56,7 +56,7 @@ impl<L: Ledger, S: Alter> Player<L, S> {
         }
     }
 
-    // The connection of what stands here.
+    // The connection of this state.
     pub(crate) fn close(self) -> Connection<S>
         ensures same { IsConnOf S.Store self.state result }
         ensures clean { IsCleanAt S.Store result → IsStateClean S.Store self.state }

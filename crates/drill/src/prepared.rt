@@ -14,7 +14,7 @@ pub(crate) struct Prepared {
     pub(crate) seqs: Vec<u64>,
 }
 
-// The most tickets that the call is given: one for each subscriber of a topic.
+// The most tickets that the call can get: one for each subscriber of a topic.
 pub(crate) fn most_tickets(call: &Call) -> usize
     ensures { result ≡ most_tickets call.now }
 {

@@ -1,4 +1,4 @@
-//! How the desk's answers are told.
+//! The replies to the desk's answers.
 ghost use Rattle.std.specs.Prelude.{◌≡◌, ◌+◌, length};
 ghost use Rattle.relay_types.specs.Records.{records_of};
 ghost use Rattle.script_lines.specs.declared.reply.Reply.TheVariants as says;

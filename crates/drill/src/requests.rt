@@ -3,15 +3,15 @@ ghost use Rattle.std.specs.Prelude.{◌≡◌, ◌≤◌, List, [], ◌∷◌, �
 ghost use Rattle.relay_types.specs.declared.limits.TheConstants.{MAX_ENDPOINTS};
 ghost use Rattle.script_lines.specs.declared.call.Call.TheVariants as on;
 ghost use Rattle.script_lines.specs.declared.reply.Reply.TheVariants as says;
-ghost use Rattle.drill.specs.declared.tickets.Given as given;
-ghost use Rattle.drill.specs.declared.tickets.Given.TheVariants.{Submission};
+ghost use Rattle.drill.specs.declared.tickets.AnyTicket as any_ticket;
+ghost use Rattle.drill.specs.declared.tickets.AnyTicket.TheVariants.{Submission};
 ghost use Rattle.drill.specs.Moves.{answer_to, commands};
-ghost use Rattle.drill.specs.Tickets.{seq_of, Keeps};
+ghost use Rattle.drill.specs.Tickets.{seq_of, KeepsTickets};
 ghost use Rattle.drill.specs.Cores.{CoreAnswers, HasRoom, HasSeqs, TakesRoom};
 
 use crate::calls::Core;
 use crate::replies::{event_reply, limits_reply, refusal_reply, told_reply};
-use crate::tickets::Given;
+use crate::tickets::AnyTicket;
 use desk::{Command, Ticket};
 use relay_types::{Body, MAX_ENDPOINTS, Moment, MsgId, Name};
 use script_lines::{Reply, Seqs};
@@ -24,7 +24,7 @@ impl<L: Ledger> Core<L> {
         ensures room { TakesRoom 1 self.old self.new }
     {
         match self.desk.command(command) {
-            Ok(ticket) => self.keep(Given::Command(ticket)),
+            Ok(ticket) => self.keep(AnyTicket::Command(ticket)),
             Err(refusal) => refusal_reply(refusal),
         }
     }
@@ -35,7 +35,7 @@ impl<L: Ledger> Core<L> {
         ensures room { TakesRoom 1 self.old self.new }
     {
         match self.desk.submit(now, name, id, body) {
-            Ok(ticket) => self.keep(Given::Submission(ticket)),
+            Ok(ticket) => self.keep(AnyTicket::Submission(ticket)),
             Err(refusal) => refusal_reply(refusal),
         }
     }
@@ -64,31 +64,31 @@ impl<L: Ledger> Core<L> {
         }
     }
 
-    // Keeps the tickets, and tells their numbers.
+    // Keeps the tickets, and replies with their numbers.
     fn keep_all(&mut self, tickets: &[Ticket], seqs: Vec<u64>) -> Reply
         requires room { HasRoom self.old (length tickets.now) 0 }
         requires empty { seqs.items ≡ [] }
         requires places { length tickets.now ≤ vec_capacity seqs }
         ensures reply { result ≡ says.Published (map (λ ticket. ticket.seq) tickets.now) }
-        ensures kept { (given : List given.Given) → Keeps self.old.tickets given
-            → Keeps self.new.tickets (reverse (map Submission tickets.now) ++ given) }
+        ensures kept { (given : List any_ticket.AnyTicket) → KeepsTickets self.old.tickets given
+            → KeepsTickets self.new.tickets (reverse (map Submission tickets.now) ++ given) }
         ensures same { self.new ≡ record self.old { tickets = self.new.tickets } }
         ensures room { TakesRoom (length tickets.now) self.old self.new }
     {
         let mut seqs = seqs;
         for ticket in tickets {
-            self.tickets.keep(Given::Submission(*ticket));
+            self.tickets.keep(AnyTicket::Submission(*ticket));
             seqs.push_reserved(ticket.seq);
         }
         Reply::Published(Seqs::of(seqs))
     }
 
-    // Keeps the ticket, and tells its number.
-    fn keep(&mut self, ticket: Given) -> Reply
+    // Keeps the ticket, and replies with its number.
+    fn keep(&mut self, ticket: AnyTicket) -> Reply
         requires { HasRoom self.old 1 1 }
         ensures reply { result ≡ says.Staged (seq_of ticket) }
-        ensures kept { (tickets : List given.Given)
-            → Keeps self.old.tickets tickets → Keeps self.new.tickets (ticket ∷ tickets) }
+        ensures kept { (tickets : List any_ticket.AnyTicket)
+            → KeepsTickets self.old.tickets tickets → KeepsTickets self.new.tickets (ticket ∷ tickets) }
         ensures same { self.new ≡ record self.old { tickets = self.new.tickets } }
         ensures room { TakesRoom 1 self.old self.new }
     {
@@ -101,8 +101,8 @@ impl<L: Ledger> Core<L> {
         ensures { CoreAnswers self.now (λ s. answer_to s (on.Told seq)) result self.now }
     {
         match self.tickets.find(seq) {
-            Some(Given::Submission(ticket)) => told_reply(self.desk.told(&ticket)),
-            Some(Given::Command(ticket)) => told_reply(self.desk.told_command(&ticket)),
+            Some(AnyTicket::Submission(ticket)) => told_reply(self.desk.told(&ticket)),
+            Some(AnyTicket::Command(ticket)) => told_reply(self.desk.told_command(&ticket)),
             None => Reply::NoTicket,
         }
     }

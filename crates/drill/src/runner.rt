@@ -20,7 +20,7 @@ use std::alloc::{AllocError, Global};
 use std::sync::ledger::{Blank, Ledger};
 use text_lines::{LineFault, StreamFault};
 
-/// The desk with what it handed out, and the store. It stands for some session at each line.
+/// The desk with what it handed out, and the store. At each line they represent some session.
 pub(crate) struct Runner<L: Ledger, S: Alter> {
     pub(crate) core: Core<L>,
     pub(crate) vault: Vault<S>,
@@ -29,7 +29,7 @@ pub(crate) struct Runner<L: Ledger, S: Alter> {
 }
 
 impl<L: Ledger, S: Alter> Runner<L, S> {
-    // Makes one call. All memory of its own is taken first.
+    // Makes one call. It allocates all of its own memory first.
     pub(crate) fn call(&mut self, alloc: Global, event: Call) -> Result<Reply, AllocError>
         ensures answers { IsCleanAt S.Store self.new.vault.conn → IfOk result (λ reply.
             Answers S.Store self.old.core self.old.vault (λ s. answer_to s event) reply self.new.core self.new.vault) }

@@ -4,9 +4,9 @@ ghost use Rattle.std.specs.Prelude.{vec_capacity, vec_len};
 ghost use Rattle.desk.specs.Desks.{HasNothingOut, IsAllOut, StandsFor};
 ghost use Rattle.desk.specs.World as model;
 ghost use Rattle.drill.specs.Cores.{HasRoom, IsCore, TakesRoom};
-ghost use Rattle.drill.specs.Places.{HasPlaces, IsPrepared, all_tickets, events_of};
-ghost use Rattle.drill.specs.Tickets.{Keeps};
-ghost use Rattle.drill.specs.Worlds.{IsOpening, IsRunFrom, TakesEvents, session_of};
+ghost use Rattle.drill.specs.Memory.{HasRunMemory, IsPrepared, all_tickets, events_of};
+ghost use Rattle.drill.specs.Tickets.{KeepsTickets};
+ghost use Rattle.drill.specs.Worlds.{IsOpening, IsRunFrom, AnswersEvents, session_of};
 ghost use Rattle.recovery.specs.Left.{IsCleanAt, VaultStandsFor};
 
 use crate::calls::Core;
@@ -35,8 +35,8 @@ pub struct World<L: Ledger, S: Alter> {
 /// Makes the calls one after another, from an opening: desk and vault of one mark, and nothing
 /// handed out. What a call hands out is kept and goes to the call that takes it: a batch to
 /// `commit`, `unseal` or `halt`, a receipt to `settle`, a doubt to `halt`, a permit to the spend
-/// that names its delivery, a ticket's number to `told`. All memory of its own is taken first;
-/// where it is refused, nothing was done.
+/// that names its delivery, a ticket's number to `told`. It allocates all of its own memory first.
+/// If that fails, nothing was done.
 pub fn run<L: Ledger, S: Alter>(
     alloc: Global,
     desk: Desk<L>,
@@ -54,34 +54,34 @@ pub fn run<L: Ledger, S: Alter>(
     ensures clean { IfOk result (λ to. IsCleanAt S.Store to.vault.conn → IsCleanAt S.Store vault.conn) }
     ensures undone { IfErr result (λ back. (back.0 ≡ desk) × (back.1 ≡ vault)) }
 {
-    match Places::of(alloc, events) {
-        Ok(places) => Ok(run_in(places, desk, vault)),
+    match RunMemory::of(alloc, events) {
+        Ok(memory) => Ok(run_in(memory, desk, vault)),
         Err(fault) => Err((desk, vault, fault)),
     }
 }
 
-// What a run takes of memory: its calls, which share all texts and bodies, and places for what
-// they are told and given.
-struct Places<L: Ledger> {
+// The memory that a run allocates: its calls, which share all texts and bodies, and room for their
+// replies, tickets and permits.
+struct RunMemory<L: Ledger> {
     calls: Vec<Prepared>,
     replies: Vec<Reply>,
     tickets: Tickets,
     permits: Vec<Permit<L>>,
 }
 
-impl<L: Ledger> Places<L> {
-    fn of(alloc: Global, events: &[Event]) -> Result<Places<L>, AllocError>
-        ensures events { IfOk result (λ places. events_of places.calls.items ≡ events.now) }
-        ensures tickets { IfOk result (λ places. Keeps places.tickets []) }
-        ensures room { IfOk result HasPlaces }
-        ensures empty { IfOk result (λ places. (places.replies.items ≡ []) × (places.permits.items ≡ [])) }
+impl<L: Ledger> RunMemory<L> {
+    fn of(alloc: Global, events: &[Event]) -> Result<RunMemory<L>, AllocError>
+        ensures events { IfOk result (λ memory. events_of memory.calls.items ≡ events.now) }
+        ensures tickets { IfOk result (λ memory. KeepsTickets memory.tickets []) }
+        ensures room { IfOk result HasRunMemory }
+        ensures empty { IfOk result (λ memory. (memory.replies.items ≡ []) × (memory.permits.items ≡ [])) }
     {
         let calls = prepare_all(alloc, events)?;
         let replies = Vec::with_capacity(alloc, events.len())?;
         let mut tickets = Tickets::new(alloc);
         tickets.reserve(all_tickets(events)?)?;
         let permits = Vec::with_capacity(alloc, events.len())?;
-        Ok(Places {
+        Ok(RunMemory {
             calls,
             replies,
             tickets,
@@ -104,7 +104,7 @@ fn prepare_all(alloc: Global, events: &[Event]) -> Result<Vec<Prepared>, AllocEr
     Ok(calls)
 }
 
-// The most tickets that the calls are given. More than can be counted are more than memory has.
+// The most tickets that the calls can get. More than can be counted are more than memory has.
 fn all_tickets(events: &[Event]) -> Result<usize, AllocError>
     ensures { IfOk result (λ count. count ≡ all_tickets events.now) }
 {
@@ -115,27 +115,27 @@ fn all_tickets(events: &[Event]) -> Result<usize, AllocError>
     Ok(count)
 }
 
-// Makes the calls in the places that were made for them.
-fn run_in<L: Ledger, S: Alter>(places: Places<L>, desk: Desk<L>, vault: Vault<S>) -> World<L, S>
+// Makes the calls in the memory that was allocated for them.
+fn run_in<L: Ledger, S: Alter>(memory: RunMemory<L>, desk: Desk<L>, vault: Vault<S>) -> World<L, S>
     requires out { HasNothingOut desk }
     requires mark { desk.waiting.mark ≡ vault.mark }
-    requires room { HasPlaces places }
-    requires tickets { Keeps places.tickets [] }
-    requires empty { (places.replies.items ≡ []) × (places.permits.items ≡ []) }
+    requires room { HasRunMemory memory }
+    requires tickets { KeepsTickets memory.tickets [] }
+    requires empty { (memory.replies.items ≡ []) × (memory.permits.items ≡ []) }
     ensures runs { IsCleanAt S.Store result.vault.conn
         → (w : model.World) → IsOpening w → StandsFor desk w → VaultStandsFor S.Store vault w
-        → IsRunFrom S.Store (session_of w) (events_of places.calls.items) result }
-    ensures replies { length result.replies.items ≡ length places.calls.items }
+        → IsRunFrom S.Store (session_of w) (events_of memory.calls.items) result }
+    ensures replies { length result.replies.items ≡ length memory.calls.items }
     ensures permits { IsPermutation result.permits.items result.desk.live }
     ensures out { IsAllOut result.desk.waiting result.receipt result.held }
     ensures clean { IsCleanAt S.Store result.vault.conn → IsCleanAt S.Store vault.conn }
 {
-    let Places {
+    let RunMemory {
         calls,
         mut replies,
         tickets,
         permits,
-    } = places;
+    } = memory;
     let mut vault = vault;
     let mut core = Core {
         desk,
@@ -161,7 +161,7 @@ fn run_in<L: Ledger, S: Alter>(places: Places<L>, desk: Desk<L>, vault: Vault<S>
     }
 }
 
-// Makes the calls one after another, and adds what each was told.
+// Makes the calls one after another, and adds the reply to each.
 fn make_calls<L: Ledger, S: Alter>(
     core: &mut Core<L>,
     vault: &mut Vault<S>,
@@ -174,7 +174,7 @@ fn make_calls<L: Ledger, S: Alter>(
     requires places { length calls.items ≤ vec_capacity replies.old }
     requires empty { replies.old.items ≡ [] }
     ensures runs { IsCleanAt S.Store vault.new.conn
-        → TakesEvents S.Store core.old vault.old (events_of calls.items) replies.new.items core.new vault.new }
+        → AnswersEvents S.Store core.old vault.old (events_of calls.items) replies.new.items core.new vault.new }
     ensures replies { length replies.new.items ≡ length calls.items }
     ensures core { IsCore core.new }
     ensures clean { IsCleanAt S.Store vault.new.conn → IsCleanAt S.Store vault.old.conn }

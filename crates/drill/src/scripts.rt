@@ -5,7 +5,7 @@ ghost use Rattle.sqlite.specs.Held.{state};
 ghost use Rattle.spool.specs.Opening.{has_ours};
 ghost use Rattle.text_lines.specs.Ends.{IsBetweenLines};
 ghost use Rattle.recovery.specs.Left.{IsCleanAt, HasNoTable};
-ghost use Rattle.drill.specs.Replays.{Replays, KeepsRun, RunsLine, IsStateClean, IsUnopened};
+ghost use Rattle.drill.specs.Replays.{Replays, KeepsRun, AnswersText, IsStateClean, IsUnopened};
 ghost use Rattle.drill.specs.Restarts.{IsNoLine};
 
 use crate::player::Player;
@@ -22,7 +22,7 @@ use text_lines::{Answerer, LineFault, StreamFault, answer_lines};
 impl<L: Ledger, S: Alter> Answerer for Player<L, S> {
     type Reply = Reply;
 
-    ghost Answers = { RunsLine S.Store };
+    ghost Answers = { AnswersText S.Store };
 
     ghost IsNoLine = { IsNoLine };
 
@@ -40,10 +40,10 @@ impl<L: Ledger, S: Alter> Answerer for Player<L, S> {
 
 /// Runs the script that the reader gives over a store without tables, and writes a reply for each
 /// line. A stop closes the desk with all that is out and opens the store again, under the next
-/// mark; where that is refused, the script ends as `Lost` or out of memory. A store that has
-/// one of the relay's tables, or whose connection is in a transaction, is `Lost`, unless memory was
-/// refused first; nothing is written. The connection comes back, outside a transaction if it came
-/// so; where the script ended between two lines, with the rows that its commits wrote.
+/// mark. If that fails, the script ends as `Lost` or out of memory. A store that has one of the
+/// relay's tables, or whose connection is in a transaction, is `Lost`, unless an allocation failed
+/// first; nothing is written. The connection comes back, outside a transaction if it was outside
+/// one. If the script ended between two lines, the connection has the rows that its commits wrote.
 pub fn replay<S: Alter, I: Read, O: Write>(
     alloc: Global,
     input: &mut I,

@@ -1,5 +1,5 @@
 use Rattle.std.proofs.Common.{◌≡◌, take}
-use Rattle.drill.specs.Places.{all_tickets}
+use Rattle.drill.specs.Memory.{all_tickets}
 use Rattle.drill.proofs.runs.all_tickets.Given as goal
 
 abbrev pub invariant-loop-event : goal.invariant-loop-event

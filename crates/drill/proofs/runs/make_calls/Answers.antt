@@ -1,6 +1,6 @@
 use Rattle.std.proofs.Common.{rules, arith, ◌∷◌, [], length, length-append, ap}
-use Rattle.drill.specs.Places.{events_of}
-use Rattle.drill.proofs.PlaceLaws.{prepared_more, tickets_more}
+use Rattle.drill.specs.Memory.{events_of}
+use Rattle.drill.proofs.PreparedLaws.{prepared_more, tickets_more}
 use Rattle.drill.proofs.ShownLaws.{events_more}
 use Rattle.drill.proofs.runs.make_calls.Goals as goal
 

@@ -1,8 +1,8 @@
 use Rattle.std.proofs.Common.{rules, ◌++◌, ◌∷◌, [], ap, ◌∙◌, sym, subst}
 use Rattle.std.specs.Prelude.{All}
 use Rattle.std.proofs.lemmas.List.Elements.{All-push}
-use Rattle.drill.specs.Places.{IsPrepared, events_of}
-use Rattle.drill.proofs.PlaceLaws.{next_taken, prepared_more}
+use Rattle.drill.specs.Memory.{IsPrepared, events_of}
+use Rattle.drill.proofs.PreparedLaws.{next_taken, prepared_more}
 use Rattle.drill.proofs.runs.prepare_all.Goals as goal
 
 pub loop-event-preserved : goal.loop-event-preserved

@@ -1,6 +1,6 @@
 use Rattle.std.proofs.Common.{◌≡◌, ◌≤◌, length, take, vec_capacity}
 use Rattle.std.specs.Prelude.{All}
-use Rattle.drill.specs.Places.{IsPrepared, events_of}
+use Rattle.drill.specs.Memory.{IsPrepared, events_of}
 use Rattle.drill.proofs.runs.prepare_all.Given as goal
 
 abbrev pub invariant-loop-event : goal.invariant-loop-event

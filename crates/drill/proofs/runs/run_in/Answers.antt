@@ -1,7 +1,7 @@
 use Rattle.std.proofs.Common.{refl}
-use Rattle.drill.specs.Places.{events_of}
+use Rattle.drill.specs.Memory.{events_of}
 use Rattle.drill.proofs.ShownLaws.{begun_core, idle_core, run_from}
-use Rattle.drill.proofs.TurnLaws.{all_held, all_given}
+use Rattle.drill.proofs.BatchLaws.{all_held, all_given}
 use Rattle.drill.proofs.runs.run_in.Goals as goal
 
 pub make_calls-requires-clause-core : goal.make_calls-requires-clause-core
@@ -9,7 +9,7 @@ make_calls-requires-clause-core g c = idle_core _ c.requires.out refl c.requires
 
 pub returns-clause-runs : goal.returns-clause-runs
 returns-clause-runs g c = λ clean w opening on vault. run_from g.S.Store _ c.args.vault c.make_calls.new.core w
-    (events_of c.args.places.calls.items) _ opening (record {
+    (events_of c.args.memory.calls.items) _ opening (record {
       stands = begun_core _ w on opening refl c.requires.empty.1 c.requires.tickets;
       holds = vault;
       mark = c.requires.mark;

@@ -1,4 +1,4 @@
-use Rattle.drill.proofs.WithinLaws as laws
+use Rattle.drill.proofs.BesideCommitLaws as laws
 use Rattle.drill.proofs.theorems.runs_keep_marks_in_order.Goals as goal
 
 pub returns : goal.returns

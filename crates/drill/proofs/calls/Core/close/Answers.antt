@@ -1,4 +1,4 @@
-use Rattle.drill.proofs.TurnLaws.{all_held, all_given}
+use Rattle.drill.proofs.BatchLaws.{all_held, all_given}
 use Rattle.drill.proofs.calls.Core.close.Goals as goal
 
 pub close-requires-clause-permits : goal.close-requires-clause-permits

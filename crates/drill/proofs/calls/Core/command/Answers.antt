@@ -1,6 +1,6 @@
 use Rattle.std.proofs.Common.{Ok, Err, refl}
 use Rattle.desk.specs.Moves.{change}
-use Rattle.drill.specs.declared.tickets.Given.TheVariants.{Command}
+use Rattle.drill.specs.declared.tickets.AnyTicket.TheVariants.{Command}
 use Rattle.drill.proofs.CoreLaws.{answers_staged, goes_change}
 use Rattle.drill.proofs.calls.Core.command.Goals as goal
 

@@ -1,6 +1,6 @@
 use Rattle.std.proofs.Common.{refl, ap}
 use Rattle.drill.specs.declared.held.Held.TheVariants as held
-use Rattle.drill.proofs.TurnLaws.{answers_halted, answers_not_halted}
+use Rattle.drill.proofs.BatchLaws.{answers_halted, answers_not_halted}
 use Rattle.drill.proofs.calls.Core.halt.Goals as goal
 
 pub returns-in-Nothing-clause-answers : goal.returns-in-Nothing-clause-answers

@@ -3,7 +3,7 @@ use Rattle.std.specs.Prelude.{IfNone, IfSome}
 use Rattle.group_commit.specs.Waits.{batch_out}
 use Rattle.desk.specs.Moves.{seal}
 use Rattle.desk.specs.Desks.{IsMove}
-use Rattle.drill.proofs.TurnLaws.{answers_sealed, answers_unsealed}
+use Rattle.drill.proofs.BatchLaws.{answers_sealed, answers_unsealed}
 use Rattle.drill.proofs.calls.Core.seal.Goals as goal
 
 pub returns-in-Ok-Some-clause-answers : goal.returns-in-Ok-Some-clause-answers

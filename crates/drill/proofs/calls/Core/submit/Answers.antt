@@ -1,6 +1,6 @@
 use Rattle.std.proofs.Common.{Ok, Err, refl}
 use Rattle.desk.specs.Moves.{submit}
-use Rattle.drill.specs.declared.tickets.Given.TheVariants.{Submission}
+use Rattle.drill.specs.declared.tickets.AnyTicket.TheVariants.{Submission}
 use Rattle.drill.proofs.CoreLaws.{answers_staged, goes_submit}
 use Rattle.drill.proofs.calls.Core.submit.Goals as goal
 

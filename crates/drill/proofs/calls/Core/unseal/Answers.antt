@@ -1,5 +1,5 @@
 use Rattle.std.proofs.Common.{refl}
-use Rattle.drill.proofs.TurnLaws.{answers_taken_back}
+use Rattle.drill.proofs.BatchLaws.{answers_taken_back}
 use Rattle.drill.proofs.calls.Core.unseal.Goals as goal
 
 pub returns-in-Ok-clause-answers : goal.returns-in-Ok-clause-answers

@@ -14,15 +14,15 @@ use Rattle.recovery.specs.Left.{records_of_first}
 use Rattle.recovery.specs.Reopenings.{AreOpenedAt, AreOpenedAtOne, opening_of}
 use Rattle.drill.specs.declared.events.Event.{Event}
 use Rattle.drill.specs.declared.events.Reply.{Reply}
-use Rattle.drill.specs.Events.{HasFirst, KeepsFirst, Runs}
+use Rattle.drill.specs.Events.{HasFirst, KeepsFirst, EventRun}
 use Rattle.drill.specs.Moves.{Session, begun}
-use Rattle.drill.specs.Later.{CallsKeepWhatWasShown, HasOneOf, RestartsKeepWhatWasShown, RunsAgain, RunsGoOn}
-use Rattle.drill.specs.Later.{StopsKeepWhatWasShown}
-use Rattle.drill.specs.Within.{HasMarksInOrder}
+use Rattle.drill.specs.AfterCrashes.{CallsKeepWhatWasShown, HasRecordsLeft, RestartsKeepWhatWasShown, RunsAfterCrashes}
+use Rattle.drill.specs.AfterCrashes.{RunsGoOn, StopsKeepWhatWasShown}
+use Rattle.drill.specs.BesideCommit.{HasMarksInOrder}
 use Rattle.drill.specs.Worlds.{IsOpening, session_of}
 use Rattle.drill.proofs.AttemptLaws.{IsTracked, opening_tracked, run_tracked}
 use Rattle.drill.proofs.GoingLaws.{event_goes_on, opening_marks, run_goes_on, same_first_records}
-use Rattle.drill.proofs.RestartLaws.{keeps_all, ordered, shorter}
+use Rattle.drill.proofs.RestartLaws.{after_lines, ordered, shorter}
 use Rattle.drill.proofs.ShownLaws.{IsOrdered, event_keeps, event_shown, first_kept, settled_count}
 
 pub go_on : RunsGoOn
@@ -30,7 +30,8 @@ go_on s last events replies n marks run = (run_goes_on events replies s last n m
 
 -- what a run shows is settled at its end, and so is what was settled before
 run_settles : (events : List Event) (replies : List Reply) (s last : Session) (n : ℕ) → HasMarksInOrder s.world
-    → Runs s events replies last n → (n ≤ settled_count last.world) × (settled_count s.world ≤ settled_count last.world)
+    → EventRun s events replies last n → (n ≤ settled_count last.world)
+    × (settled_count s.world ≤ settled_count last.world)
 run_settles [] [] s last n marks (same, none) =
     (omega (arith, none), omega (arith, ap (λ (t : Session). settled_count t.world) same))
 run_settles (event ∷ events) (told ∷ replies) s last n marks (next, later, makes, rest, is) =
@@ -54,7 +55,7 @@ kept w n records h = first_kept w n records (record { below = h.tracked.below; w
     h.tracked.leaves h.settled h.same
 
 opened_with : (w opening : World) (numbers : List ℕ) (n : ℕ) (records : List Record)
-    → AllByRecursion (λ steps. HasFirst n records (records_of_first w steps)) numbers → HasOneOf w numbers opening
+    → AllByRecursion (λ steps. HasFirst n records (records_of_first w steps)) numbers → HasRecordsLeft w numbers opening
     → HasFirst n records (all_records opening)
 opened_with w opening [] n records first none = absurd none
 opened_with w opening (steps ∷ others) n records first (inl is) = subst (HasFirst n records) (sym is) first.0
@@ -69,7 +70,7 @@ opening_settled w (history, clock, is) =
 
 -- a run keeps what its opening has
 run_has : (w : World) (events : List Event) (replies : List Reply) (last : Session) (m n : ℕ) (records : List Record)
-    → IsOpening w → Runs (session_of w) events replies last m → HasFirst n records (all_records w)
+    → IsOpening w → EventRun (session_of w) events replies last m → HasFirst n records (all_records w)
     → HasSettled last.world n records
 run_has w events replies last m n records opening run (within, same) = record {
   tracked = run_tracked (session_of w) events replies last m (opening_tracked w opening) run;
@@ -84,7 +85,7 @@ run_has w events replies last m n records opening run (within, same) = record {
 }
 
 runs_have : (runs : List (List Event × List Reply)) (w last : World) (n : ℕ) (records : List Record)
-    → HasSettled w n records → RunsAgain w runs last → HasSettled last n records
+    → HasSettled w n records → RunsAfterCrashes w runs last → HasSettled last n records
 runs_have [] w last n records h same = subst (λ v. HasSettled v n records) (sym same) h
 runs_have (run ∷ runs) w last n records h (opening, next, m, is, one, runs_so, rest) =
     runs_have runs next.world last n records
@@ -101,8 +102,8 @@ restarts_keep w last events replies first n runs opening run again = kept last n
 
 pub stops_keep : StopsKeepWhatWasShown
 stops_keep lines more replies others first last n later run rest =
-    let before = keeps_all begun lines replies first n (opening_tracked begun.world ([], 0, refl)) run in
-    let behind = keeps_all first more others last later before.tracked rest in
+    let before = after_lines begun lines replies first n (opening_tracked begun.world ([], 0, refl)) run in
+    let behind = after_lines first more others last later before.tracked rest in
     first_kept last.world n (all_records first.world) (ordered last behind.tracked) behind.tracked.leaves
     (omega (arith, before.shown, behind.settled))
     (shorter n (settled_count first.world) (all_records last.world) (all_records first.world) before.shown behind.same)
@@ -118,18 +119,18 @@ opened_at g desk vault w (steps ∷ others) n records first (inl opened) = (take
 opened_at g desk vault w (steps ∷ others) n records first (inr other) = opened_at g desk vault w others n records
     first.1 other
 
--- what stands in front of all that a stop may leave has them, so that has them too
-in_front_kept : (w : World) (numbers : List ℕ) (n : ℕ) (records front : List Record) → HasFirst n records front
+-- the prefix of whatever survives a crash has them, so that has them too
+has_first_by_prefix : (w : World) (numbers : List ℕ) (n : ℕ) (records front : List Record) → HasFirst n records front
     → AllByRecursion (λ steps. (more : List Record) × (records_of_first w steps ≡ front ++ more)) numbers
     → AllByRecursion (λ steps. HasFirst n records (records_of_first w steps)) numbers
-in_front_kept w [] n records front has none = tt
-in_front_kept w (steps ∷ others) n records front has ((more, is), rest) = (
+has_first_by_prefix w [] n records front has none = tt
+has_first_by_prefix w (steps ∷ others) n records front has ((more, is), rest) = (
   (
     omega (arith, has.0, ap length is, length-append front more),
     ap (take n) is ∙ take-append-le n front more has.0
         ∙ has.1,
   ),
-  in_front_kept w others n records front has rest,
+  has_first_by_prefix w others n records front has rest,
 )
 
 pub calls_keep : {L S : Type 0} (g : Ghosts S) → CallsKeepWhatWasShown L g
@@ -140,6 +141,6 @@ calls_keep g s events more to later desk vault one opened runs =
     let two = runs opening (history, opening.clock, refl) stands.0 stands.1 in (
       opening,
       two,
-      in_front_kept two.last.world two.last.world.left one.acknowledged (all_records one.last.world)
+      has_first_by_prefix two.last.world two.last.world.left one.acknowledged (all_records one.last.world)
           (records_of history) has two.begins,
     )

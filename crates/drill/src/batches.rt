@@ -1,11 +1,11 @@
-//! The turns of a batch.
+//! The calls on a batch: it is sealed, committed, settled, taken back or given up.
 ghost use Rattle.std.specs.Prelude.{◌≡◌, ℕ, None};
 ghost use Rattle.group_commit.specs.Turns.{IsHeldOf};
 ghost use Rattle.script_lines.specs.declared.call.Call.TheVariants as on;
 ghost use Rattle.script_lines.specs.declared.reply.Fault.{Fault};
 ghost use Rattle.script_lines.specs.declared.reply.Reply.TheVariants as says;
 ghost use Rattle.drill.specs.Moves.{answer_to, wrong_turn};
-ghost use Rattle.drill.specs.Cores.{CoreAnswers, HandsOver, IsCore, KeepsOn, TakesRoom, given_of, receipt_of};
+ghost use Rattle.drill.specs.Cores.{CoreAnswers, HandsOver, IsCore, RefusesHandOver, TakesRoom, given_of, receipt_of};
 ghost use Rattle.drill.specs.Runners.{Answers};
 ghost use Rattle.recovery.specs.Left.{IsCleanAt};
 
@@ -119,10 +119,10 @@ impl<L: Ledger> Core<L> {
         }
     }
 
-    // Hands over what a committer that gives up held.
+    // Hands over what a committer that halts the desk held.
     fn hand_over(&mut self, held: group_commit::Held) -> Reply
         ensures halts { HandsOver self.old held result self.new }
-        ensures refused { KeepsOn self.old held result self.new }
+        ensures refused { RefusesHandOver self.old held result self.new }
         ensures mark { self.new.desk.waiting.mark ≡ self.old.desk.waiting.mark }
         ensures live { self.new.desk.live ≡ self.old.desk.live }
         ensures gone { IsHeldOf self.old.desk.waiting held

@@ -1,4 +1,4 @@
--- What the turns of a batch make of a core and its session: it is sealed, settled, taken back or given up.
+-- A core and its session after the calls on a batch: it is sealed, settled, taken back or given up.
 use Rattle.std.proofs.Common.{◌≡◌, ℕ, ◌+◌, ◌≤◌, ◌==◌, Bool, true, false, not, [], ◌∷◌, ◌++◌, length, take, drop, Option}
 use Rattle.std.proofs.Common.{Some, None, Result, Ok, Err, inl, inr, refl, sym, ap, subst, ◌∙◌, append_assoc}
 use Rattle.std.proofs.Common.{length-append}
@@ -26,12 +26,12 @@ use Rattle.desk.specs.Desks.{StandsFor, IsMove, IsReceiptOf, ArePlacesOf, IsHeld
 use Rattle.drill.specs.declared.calls.Core.{Core}
 use Rattle.drill.specs.declared.held.Held.{Held}
 use Rattle.drill.specs.declared.held.Held.TheVariants as held
-use Rattle.drill.specs.Tickets.{Keeps}
-use Rattle.drill.specs.Moves.{Session, Answer, MayTell, moves, stays, tells, seal_reply, settles, unseals, halts}
+use Rattle.drill.specs.Tickets.{KeepsTickets}
+use Rattle.drill.specs.Moves.{Session, Answer, MayReply, moves, stays, tells, seal_reply, settles, unseals, halts}
 use Rattle.drill.specs.Moves.{unsealed_reply}
-use Rattle.drill.specs.Cores.{IsHeld, AreOnce, CoreStandsFor, CoreAnswers, HoldsAll, HoldsOut, IsCore, HandsOver}
-use Rattle.drill.specs.Cores.{KeepsOn, receipt_of, given_of}
-use Rattle.drill.proofs.CoreLaws.{holds_so, tells_given}
+use Rattle.drill.specs.Cores.{IsHeld, AreOnePerDelivery, CoreStandsFor, CoreAnswers, HoldsAll, HoldsOut, IsCore}
+use Rattle.drill.specs.Cores.{HandsOver, RefusesHandOver, receipt_of, given_of}
+use Rattle.drill.proofs.CoreLaws.{still_holds_all, tells_given}
 
 pub is_nothing : (o : Out) → is_nothing_out o ≡ true → o ≡ Nothing
 is_nothing Nothing h = refl
@@ -45,7 +45,7 @@ answer_by mark w halted nothing idle =
     if halted then refused w 1 desk_fault.Halted else
     (if not nothing then refused w 2 desk_fault.BatchOut else seal_waiting mark w idle)
 
--- what is told of a batch doesn't tell of its mark
+-- the reply about a batch doesn't show its mark
 same_seal : (mark : ℕ) (s : Session) → tells seal_reply s (seal mark s.world) ≡ tells seal_reply s (seal 0 s.world)
 same_seal mark s = at s.world.halted (is_nothing_out s.world.out) (length s.world.history == s.world.settled)
   where
@@ -58,15 +58,15 @@ same_seal mark s = at s.world.halted (is_nothing_out s.world.out) (length s.worl
 
 may_seal : (mark : ℕ) (s : Session) (result : Result (Option BatchValue) Refusal) (next : World)
     → MayGive s.world (seal mark s.world) result next
-    → MayTell (tells seal_reply s (seal 0 s.world)) (seal_reply result) (record s { world = next })
+    → MayReply (tells seal_reply s (seal 0 s.world)) (seal_reply result) (record s { world = next })
 may_seal mark s result next given =
-    subst (λ answer. MayTell answer (seal_reply result) (record s { world = next })) (same_seal mark s)
+    subst (λ answer. MayReply answer (seal_reply result) (record s { world = next })) (same_seal mark s)
     (tells_given seal_reply s (seal mark s.world) result next (λ r. refl) given)
 
 abbrev sealing : BatchValue → Result (Option BatchValue) Refusal
 sealing batch = Ok (Some batch)
 
--- what is so where a batch is handed out
+-- the facts if a batch is handed out
 record IsSealing (mark : ℕ) (w : World) (batch : BatchValue) (next : World) : Type 0 where
   nothing : w.out ≡ Nothing
   going : w.halted ≡ false
@@ -142,7 +142,7 @@ answers_sealed old new batch moved mark live out permits tickets same = record {
           held = subst (IsHeld new.desk.waiting.mark (with_batch s.world)) (sym same) (refl, has);
           permits = permits ∙ on.permits;
           once = on.once;
-          tickets = subst (λ t. Keeps t s.tickets) (sym tickets) on.tickets;
+          tickets = subst (λ t. KeepsTickets t s.tickets) (sym tickets) on.tickets;
         },
       );
 }
@@ -154,7 +154,7 @@ pub answers_unsealed : {L : Type 0} (old new : Core L) (result : Result (Option 
     → CoreAnswers old (λ s. tells seal_reply s (seal 0 s.world)) (seal_reply result) new
 answers_unsealed old new result unsealed moved mark out permits tickets same = record {
   mark = mark;
-  keeps = holds_so old new out same permits;
+  keeps = still_holds_all old new out same permits;
   moves = λ s on.
       let move = moved s.world on.desk in
       let stayed = unsealed_move old.desk.waiting.mark s.world result move.0 unsealed move.1 in (
@@ -167,7 +167,7 @@ answers_unsealed old new result unsealed moved mark out permits tickets same = r
               (subst (IsHeld old.desk.waiting.mark s.world) (sym same) on.held);
           permits = permits ∙ on.permits;
           once = on.once;
-          tickets = subst (λ t. Keeps t s.tickets) (sym tickets) on.tickets;
+          tickets = subst (λ t. KeepsTickets t s.tickets) (sym tickets) on.tickets;
         },
       );
 }
@@ -182,23 +182,23 @@ pub split_at : (n : ℕ) (xs : History) → records_of (take n xs) ++ records_of
 split_at n xs = sym (flatten_both (take n xs) (drop n xs)) ∙ ap records_of (take-append-drop n xs)
 
 -- the first records and those up to a later mark
-pub front_is : (xs : History) (from to : ℕ) → from ≤ to
+pub prefix_and_batch : (xs : History) (from to : ℕ) → from ≤ to
     → records_of (take from xs) ++ records_of (drop from (take to xs)) ≡ records_of (take to xs)
-front_is xs from to below = ap (λ front. records_of front ++ records_of (drop from (take to xs)))
+prefix_and_batch xs from to below = ap (λ front. records_of front ++ records_of (drop from (take to xs)))
     (sym (take-take from to xs below)) ∙ split_at from (take to xs)
 
 -- the settled records and those of the batch are the sealed ones
-pub sealed_is : (mark : ℕ) (w : World) → w.settled ≤ w.sealed
+pub settled_and_batch : (mark : ℕ) (w : World) → w.settled ≤ w.sealed
     → settled_records w ++ records_of (sealed_batch mark w).steps ≡ sealed_records w
-sealed_is mark w below = front_is w.history w.settled w.sealed below
+settled_and_batch mark w below = prefix_and_batch w.history w.settled w.sealed below
 
--- and a front of all
-pub sealed_front : (w : World) → sealed_records w ++ records_of (drop w.sealed w.history) ≡ records_of w.history
-sealed_front w = split_at w.sealed w.history
+-- and a prefix of all
+pub sealed_is_prefix : (w : World) → sealed_records w ++ records_of (drop w.sealed w.history) ≡ records_of w.history
+sealed_is_prefix w = split_at w.sealed w.history
 
 -- Turns that end
 
--- nothing is held then, and the desk stands for the world after the turn
+-- nothing is held then, and the desk represents the world after the call
 ended : {L : Type 0} (old new : Core L) (s : Session) (next : World) → CoreStandsFor old s → StandsFor new.desk next
     → next.out ≡ Nothing → next.live ≡ s.world.live
     → new.permits.items ≡ old.permits.items → new.tickets ≡ old.tickets → new.held ≡ held.Nothing
@@ -207,14 +207,14 @@ ended old new s next on desk out live permits tickets same = record {
   desk = desk;
   held = subst (IsHeld new.desk.waiting.mark next) (sym same) out;
   permits = permits ∙ on.permits ∙ sym live;
-  once = subst AreOnce (sym live) on.once;
-  tickets = subst (λ t. Keeps t s.tickets) (sym tickets) on.tickets;
+  once = subst AreOnePerDelivery (sym live) on.once;
+  tickets = subst (λ t. KeepsTickets t s.tickets) (sym tickets) on.tickets;
 }
 
 -- whatever was read of the store
-ended_so : {L : Type 0} (old new : Core L) → new.desk.live ≡ old.desk.live → new.desk.waiting.out ≡ None
+ended_holds_all : {L : Type 0} (old new : Core L) → new.desk.live ≡ old.desk.live → new.desk.waiting.out ≡ None
     → new.permits.items ≡ old.permits.items → new.held ≡ held.Nothing → IsCore old → IsCore new
-ended_so old new live out permits same core = ∥∥₁_map core (λ (h : HoldsAll old). record {
+ended_holds_all old new live out permits same core = ∥∥₁_map core (λ (h : HoldsAll old). record {
   permits = permits ∙ h.permits ∙ sym live;
   out = subst (HoldsOut (batch_out new.desk.waiting)) (sym same) (ap (option_map (batch_of new.desk.waiting)) out);
 })
@@ -233,12 +233,12 @@ pub answers_settled : {L : Type 0} (old new : Core L) (receipt : BatchValue) (re
     → CoreAnswers old (λ s. settles s s.world.out) (says.SettledTo records) new
 answers_settled old new receipt records was moved counts mark live out permits tickets same = record {
   mark = mark;
-  keeps = ended_so old new live out permits same;
+  keeps = ended_holds_all old new live out permits same;
   moves = λ s on.
       let had = subst (IsHeld old.desk.waiting.mark s.world) (sym was) on.held in
       let next = with_sealed_settled s.world in (
         record s { world = next },
-        subst (λ o. MayTell (settles s o) (says.SettledTo records) (record s { world = next })) (sym had.0)
+        subst (λ o. MayReply (settles s o) (says.SettledTo records) (record s { world = next })) (sym had.0)
             (inl (ap says.SettledTo (counts s.world on.desk), refl)),
         ended old new s next on (moved s.world on.desk).1 refl refl permits tickets same,
       );
@@ -253,25 +253,25 @@ pub answers_taken_back : {L : Type 0} (old new : Core L) (batch : BatchValue) (f
     → CoreAnswers old (λ s. unseals s s.world.out) (says.Unsealed from to) new
 answers_taken_back old new batch from to was first last moved mark live out permits tickets same = record {
   mark = mark;
-  keeps = ended_so old new live out permits same;
+  keeps = ended_holds_all old new live out permits same;
   moves = λ s on.
       let had = subst (IsHeld old.desk.waiting.mark s.world) (sym was) on.held in
       let next = with_batch_back s.world in
       let steps = records_of (sealed_batch old.desk.waiting.mark s.world).steps in
       let upto : length (settled_records s.world) + length steps ≡ length (sealed_records s.world) =
       sym (length-append (settled_records s.world) steps)
-      ∙ ap length (sealed_is old.desk.waiting.mark s.world on.desk.waiting.settled_first) in
+      ∙ ap length (settled_and_batch old.desk.waiting.mark s.world on.desk.waiting.settled_first) in
       let told : says.Unsealed from to ≡ unsealed_reply s.world =
       (λ i. says.Unsealed (first i) (last i)) ∙ ap (λ (b : BatchValue). says.Unsealed b.from (doubt_of b).upto) had.1
       ∙ ap (says.Unsealed (length (settled_records s.world))) upto in (
         record s { world = next },
-        subst (λ o. MayTell (unseals s o) (says.Unsealed from to) (record s { world = next })) (sym had.0)
+        subst (λ o. MayReply (unseals s o) (says.Unsealed from to) (record s { world = next })) (sym had.0)
             (inl (told, refl)),
         ended old new s next on (moved s.world on.desk).1 refl refl permits tickets same,
       );
 }
 
--- what is held stays, where the call was for something else
+-- what is held stays, if the call was for something else
 pub answers_idle : {L : Type 0} (old new : Core L) (answer : Session → Answer) (reply : Reply)
     → ((s : Session) → IsHeld old.desk.waiting.mark s.world old.held → answer s ≡ stays s reply)
     → new ≡ old → CoreAnswers old answer reply new
@@ -280,7 +280,7 @@ answers_idle {L} old new answer reply says same = subst (CoreAnswers old answer 
       mark = refl;
       moves = λ s on. (
         s,
-        subst (λ a. MayTell a reply s) (sym (says s on.held)) (inl (refl, refl)),
+        subst (λ a. MayReply a reply s) (sym (says s on.held)) (inl (refl, refl)),
         on,
       );
       keeps = λ same. same;
@@ -332,7 +332,7 @@ is_no_receipt (held.Batch batch) = true
 is_no_receipt (held.Receipt receipt) = false
 is_no_receipt (held.Doubt doubt) = true
 
--- and where it isn't a receipt, the desk takes it
+-- and if it isn't a receipt, the desk takes it
 haltable_out : (w : WaitingValue) (now : Held) → is_no_receipt now ≡ true → HoldsOut (batch_out w) now
     → turns.IsHeldOf w (given_of now)
 haltable_out w held.Nothing e h = none_out w h
@@ -340,7 +340,7 @@ haltable_out w (held.Batch batch) e h = places_at w (doubt_of batch) (ap (option
 haltable_out w (held.Receipt receipt) e h = absurd (let no = e in cc)
 haltable_out w (held.Doubt doubt) e h = places_at w doubt h
 
--- what is so of a held thing that isn't a receipt
+-- the facts of a held thing that isn't a receipt
 record IsHaltable (mark : ℕ) (s : Session) (now : Held) : Type 0 where
   out : IsHeldOf mark s.world (given_of now)
   answer : halts s s.world.out ≡ moves s says.Halted (with_halt s.world)
@@ -374,14 +374,14 @@ answers_halted old new now gone reply was nothing none over mark live gives perm
       let done = over s.world on.desk may.out in
       let next = with_halt s.world in (
         record s { world = next },
-        subst (λ answer. MayTell answer reply (record s { world = next })) (sym may.answer) (inl (done.0, refl)),
+        subst (λ answer. MayReply answer reply (record s { world = next })) (sym may.answer) (inl (done.0, refl)),
         ended old new s next on done.2 refl refl permits tickets (done.1 ∙ nothing),
       );
 }
 
 -- A receipt is held, so what is out isn't given up.
 pub answers_not_halted : {L : Type 0} (old middle : Core L) (gone : Held) (receipt : BatchValue) (reply : Reply)
-    → held.Receipt receipt ≡ old.held → KeepsOn (record old { held = gone }) waiting_held.Nothing reply middle
+    → held.Receipt receipt ≡ old.held → RefusesHandOver (record old { held = gone }) waiting_held.Nothing reply middle
     → (¬ turns.IsHeldOf old.desk.waiting waiting_held.Nothing → middle.desk ≡ old.desk)
     → middle.desk.waiting.mark ≡ old.desk.waiting.mark
     → middle.permits.items ≡ old.permits.items → middle.tickets ≡ old.tickets
@@ -402,13 +402,13 @@ answers_not_halted old middle gone receipt reply was over kept mark permits tick
       let (told, stands) = over s.world on.desk (λ idle. let no : false ≡ true = sym (ap is_nothing_out had.0) ∙ idle
       in cc) in (
         s,
-        subst (λ o. MayTell (halts s o) reply s) (sym had.0) (inl (told, refl)),
+        subst (λ o. MayReply (halts s o) reply s) (sym had.0) (inl (told, refl)),
         record {
           desk = stands;
           held = (had.0, had.1 ∙ ap (λ m. sealed_batch m s.world) (sym mark));
           permits = permits ∙ on.permits;
           once = on.once;
-          tickets = subst (λ t. Keeps t s.tickets) (sym tickets) on.tickets;
+          tickets = subst (λ t. KeepsTickets t s.tickets) (sym tickets) on.tickets;
         },
       );
 }

@@ -1,4 +1,5 @@
--- Calls that may be made during a commit change places with it: they read neither what is out nor what a stop leaves.
+-- Calls that may be made during a commit change places with it: they read neither what is out nor
+-- what survives a crash.
 use Rattle.std.proofs.Common.{◌≡◌, ◌≤◌, ◌==◌, ℕ, Bool, true, false, List, [], ◌∷◌, ◌++◌, length, take, max, Option}
 use Rattle.std.proofs.Common.{Some, None, Result, ◌⊎◌, inl, inr, refl, sym, ap, subst, ◌∙◌, arith}
 use Rattle.std.specs.Prelude.{if◌then◌else◌}
@@ -34,25 +35,25 @@ use Rattle.drill.specs.declared.events.Look.{Look}
 use Rattle.drill.specs.declared.events.Look.TheVariants as look
 use Rattle.drill.specs.declared.events.Reply.{Reply}
 use Rattle.drill.specs.declared.events.Reply.TheVariants as reply
-use Rattle.drill.specs.declared.tickets.Given.{Given}
-use Rattle.drill.specs.declared.tickets.Given.TheVariants.{Submission, Command as OfCommand}
-use Rattle.drill.specs.Events.{Makes, Runs, look_reply, shown, shown_by_line}
-use Rattle.drill.specs.Moves.{Session, Answer, MayTell, answer_to, claim_reply, commits, endpoint_reply, event_reply}
+use Rattle.drill.specs.declared.tickets.AnyTicket.{AnyTicket}
+use Rattle.drill.specs.declared.tickets.AnyTicket.TheVariants.{Submission, Command as OfCommand}
+use Rattle.drill.specs.Events.{EventMove, EventRun, look_reply, shown, shown_by_line}
+use Rattle.drill.specs.Moves.{Session, Answer, MayReply, answer_to, claim_reply, commits, endpoint_reply, event_reply}
 use Rattle.drill.specs.Moves.{lacks, limits_reply, moves, permit_of, refusal_reply, seal_reply, spends, spent_reply}
 use Rattle.drill.specs.Moves.{gives, published_reply, staged_reply, stages, stays, tells, told_reply, with_ticket}
 use Rattle.drill.specs.Moves.{with_tickets}
-use Rattle.drill.specs.Runs.{Move}
+use Rattle.drill.specs.Runs.{CallMove}
 use Rattle.drill.specs.Tickets.{find_ticket}
-use Rattle.drill.specs.Within.{CallsChangePlacesWithCommits, HasMarksInOrder, RunsKeepMarksInOrder, commit}
-use Rattle.drill.specs.Within.{is_line_within, is_within}
+use Rattle.drill.specs.BesideCommit.{CallsChangePlacesWithCommits, HasMarksInOrder, RunsKeepMarksInOrder, commit}
+use Rattle.drill.specs.BesideCommit.{is_line_beside_commit, is_beside_commit}
 use Rattle.drill.specs.Worlds.{session_of}
 use Rattle.drill.proofs.CoreLaws.{Goes, goes_change, goes_claim, goes_over, goes_publish, goes_submit, is_claim}
-use Rattle.drill.proofs.CoreLaws.{same_first, stays_so}
+use Rattle.drill.proofs.CoreLaws.{same_first, stages_nothing}
 use Rattle.drill.proofs.GoingLaws.{marks_go, opening_marks, run_goes_on}
 use Rattle.drill.proofs.ShownLaws.{event_shown}
-use Rattle.drill.proofs.TurnLaws.{answer_by}
+use Rattle.drill.proofs.BatchLaws.{answer_by}
 
--- The same with something else out, of which a stop leaves something else
+-- The same with something else out, of which something else survives a crash
 
 abbrev with_out : (o : Out) (left : List ℕ) → World → World
 with_out o left w = record w { out = o; left = left }
@@ -140,7 +141,7 @@ claim_with w now o left = unless_with o left ((w.halted, 1, desk_fault.Halted) �
     by (Some d) = unless_with o left ((are_seqs_spent w, 2, desk_fault.SeqExhausted) ∷ []) w _ _
         (started d (accepted (all_records w) d))
 
--- the end of an attempt, where the desk is halted and where it isn't
+-- the end of an attempt, at a desk that is halted and at one that isn't
 abbrev over_in : (w v : World) (row : Row) → PostResult → (now : ℕ) → Bool → World
 over_in w v row post now halted = if halted then without_row v row else record (without_row v row) {
   history = w.history ++ outcome_by w row post (moment w now);
@@ -157,8 +158,8 @@ over_with w row post now o left = at w.halted
     at true = refl
     at false = refl
 
--- What a call is told and what it makes of the session, whatever is out
-record Stands (s : Session) (answer : Out → List ℕ → Answer) : Type 0 where
+-- A call's reply and the session after it are the same, whatever is out
+record AnswersAlike (s : Session) (answer : Out → List ℕ → Answer) : Type 0 where
   said : line_reply.Reply
   next : Session
   memory : Option ℕ
@@ -171,14 +172,22 @@ record Stands (s : Session) (answer : Out → List ℕ → Answer) : Type 0 wher
             memory;
       }
 
-looks : (s : Session) (told : line_reply.Reply) → Stands s (λ o left. stays (session_with o left s) told)
-looks s told = record { said = told; next = s; memory = None; goes = (stays_so s.world).goes; is = λ o left out. refl }
+looks : (s : Session) (told : line_reply.Reply) → AnswersAlike s (λ o left. stays (session_with o left s) told)
+looks s told = record {
+  said = told;
+  next = s;
+  memory = None;
+  goes = (stages_nothing s.world).goes;
+  is =
+      λ o left out. refl;
+}
 
-given : {A : Type 0} (told : Result A Refusal → line_reply.Reply) (kept : Result A Refusal → List Given → List Given)
+given : {A : Type 0} (told : Result A Refusal → line_reply.Reply) (kept : Result A Refusal → List AnyTicket
+    → List AnyTicket)
     (s : Session) (move : World → desk.Answer A)
     → Goes s.world (move s.world).next
     → ((o : Out) (left : List ℕ) → move (with_out o left s.world) ≡ answer_with o left (move s.world))
-    → Stands s (λ o left. gives told kept (session_with o left s) (move (with_out o left s.world)))
+    → AnswersAlike s (λ o left. gives told kept (session_with o left s) (move (with_out o left s.world)))
 given told kept s move goes same = record {
   said = told (move s.world).reply;
   next = record { world = (move s.world).next; tickets = kept (move s.world).reply s.tickets };
@@ -187,13 +196,14 @@ given told kept s move goes same = record {
   is = λ o left out. ap (gives told kept (session_with o left s)) (same o left);
 }
 
-staged : {A : Type 0} (of : A → Given) (s : Session) (move : World → desk.Answer A) → Goes s.world (move s.world).next
+staged : {A : Type 0} (of : A → AnyTicket) (s : Session) (move : World → desk.Answer A)
+    → Goes s.world (move s.world).next
     → ((o : Out) (left : List ℕ) → move (with_out o left s.world) ≡ answer_with o left (move s.world))
-    → Stands s (λ o left. stages of (session_with o left s) (move (with_out o left s.world)))
+    → AnswersAlike s (λ o left. stages of (session_with o left s) (move (with_out o left s.world)))
 staged of s move goes same = given (staged_reply of) (with_ticket of) s move goes same
 
 claimed : (s : Session) (now : ℕ)
-    → Stands s (λ o left. tells claim_reply (session_with o left s) (claim (with_out o left s.world) now))
+    → AnswersAlike s (λ o left. tells claim_reply (session_with o left s) (claim (with_out o left s.world) now))
 claimed s now = record {
   said = claim_reply (claim s.world now).reply;
   next = record s { world = (claim s.world now).next };
@@ -203,7 +213,7 @@ claimed s now = record {
 }
 
 spent : (s : Session) (post : PostResult) (now : ℕ) (permit : Option Row)
-    → Stands s (λ o left. spends (session_with o left s) permit post now)
+    → AnswersAlike s (λ o left. spends (session_with o left s) permit post now)
 spent s post now None = looks s says.NoPermit
 spent s post now (Some row) = record {
   said = spent_reply (spent_in s.world (with_attempt_over s.world row post now) row post);
@@ -217,10 +227,10 @@ spent s post now (Some row) = record {
 
 -- while something is out, nothing is sealed
 sealed : (s : Session)
-    → Stands s (λ o left. tells seal_reply (session_with o left s) (seal 0 (with_out o left s.world)))
+    → AnswersAlike s (λ o left. tells seal_reply (session_with o left s) (seal 0 (with_out o left s.world)))
 sealed s = at s.world.halted
   where
-    at : (halted : Bool) → Stands s
+    at : (halted : Bool) → AnswersAlike s
         (λ o left. tells seal_reply (session_with o left s)
         (answer_by 0 (with_out o left s.world) halted (is_nothing_out o) (length s.world.history == s.world.settled)))
     at true = looks s (refusal_reply (refusal 1 desk_fault.Halted))
@@ -228,23 +238,23 @@ sealed s = at s.world.halted
       said = refusal_reply (refusal 2 desk_fault.BatchOut);
       next = s;
       memory = None;
-      goes = (stays_so s.world).goes;
+      goes = (stages_nothing s.world).goes;
       is = λ o left out. ap
           (λ b. tells seal_reply (session_with o left s)
           (answer_by 0 (with_out o left s.world) false b (length s.world.history == s.world.settled))) out;
     }
 
-stands : (s : Session) (event : line.Call) → is_line_within event ≡ true
-    → Stands s (λ o left. answer_to (session_with o left s) event)
-stands s event within = at event within
+answers_alike : (s : Session) (event : line.Call) → is_line_beside_commit event ≡ true
+    → AnswersAlike s (λ o left. answer_to (session_with o left s) event)
+answers_alike s event within = at event within
   where
     changed : (command : Command)
-        → Stands s (λ o left. stages OfCommand (session_with o left s) (change (with_out o left s.world) command))
+        → AnswersAlike s (λ o left. stages OfCommand (session_with o left s) (change (with_out o left s.world) command))
     changed command = staged OfCommand s (λ w. change w command) (goes_change s.world command).goes
         (change_with command s.world)
 
-    at : (event : line.Call) → is_line_within event ≡ true
-        → Stands s (λ o left. answer_to (session_with o left s) event)
+    at : (event : line.Call) → is_line_beside_commit event ≡ true
+        → AnswersAlike s (λ o left. answer_to (session_with o left s) event)
     at (on_line.Put name target max secrets) within = changed (PutEndpoint name target max secrets)
     at (on_line.Secrets name secrets) within = changed (SetSecrets name secrets)
     at (on_line.Enabled name flag) within = changed (SetEnabled name flag)
@@ -267,72 +277,79 @@ stands s event within = at event within
     at (on_line.ShowEndpoint name) within = looks s (endpoint_reply (endpoint_page (settled_records s.world) name))
     at (on_line.Show name id) within = looks s (event_reply (event_page (settled_records s.world) name id))
 
--- A call of a session is told the same where something else is out, and leaves it out
+-- A call of a session gets the same reply if something else is out, and leaves it out
 
-told_with : (s next after : Session) (said told : line_reply.Reply) (memory : Option ℕ) (o other : Out)
+reply_whatever_is_out : (s next after : Session) (said told : line_reply.Reply) (memory : Option ℕ) (o other : Out)
     (left more : List ℕ)
-    → MayTell (record {
+    → MayReply (record {
       reply = said;
       next = session_with o left after;
       unserved = lacks (session_with o left s) memory;
     }) told next
-    → MayTell (record {
+    → MayReply (record {
       reply = said;
       next = session_with other more after;
       unserved = lacks (session_with other more s)
           memory;
     }) told (session_with other more next)
-told_with s next after said told memory o other left more (inl given) = inl
+reply_whatever_is_out s next after said told memory o other left more (inl given) = inl
     (given.0, ap (session_with other more) given.1)
-told_with s next after said told None o other left more (inr none) = inr none
-told_with s next after said told (Some number) o other left more (inr (inl given)) = inr
+reply_whatever_is_out s next after said told None o other left more (inr none) = inr none
+reply_whatever_is_out s next after said told (Some number) o other left more (inr (inl given)) = inr
     (inl (given.0, ap (session_with other more) given.1))
-told_with s next after said told (Some number) o other left more (inr (inr none)) = absurd none
+reply_whatever_is_out s next after said told (Some number) o other left more (inr (inr none)) = absurd none
 
 goes_told : (s next after : Session) (said told : line_reply.Reply) (memory : Option ℕ) → Goes s.world after.world
-    → MayTell (record { reply = said; next = after; unserved = lacks s memory }) told next → Goes s.world next.world
+    → MayReply (record { reply = said; next = after; unserved = lacks s memory }) told next → Goes s.world next.world
 goes_told s next after said told memory goes (inl given) = subst (λ (t : Session). Goes s.world t.world)
     (sym given.1) goes
 goes_told s next after said told None goes (inr none) = absurd none
 goes_told s next after said told (Some number) goes (inr (inl given)) = subst (λ (t : Session). Goes s.world t.world)
-    (sym given.1) (stays_so s.world).goes
+    (sym given.1) (stages_nothing s.world).goes
 goes_told s next after said told (Some number) goes (inr (inr none)) = absurd none
 
-line_with : (s next : Session) (event : line.Call) (told : line_reply.Reply) (o other : Out) (left more : List ℕ)
-    → is_line_within event ≡ true → is_nothing_out o ≡ false → is_nothing_out other ≡ false
-    → Move (session_with o left s) event told next → Goes (with_out o left s.world) next.world
-    × Move (session_with other more s) event told (session_with other more next)
-line_with s next event told o other left more within out some move =
-    let h = stands s event within in
-    let from = subst (λ answer. MayTell answer told next) (h.is o left out) move in (
+line_whatever_is_out : (s next : Session) (event : line.Call) (told : line_reply.Reply) (o other : Out)
+    (left more : List ℕ)
+    → is_line_beside_commit event ≡ true → is_nothing_out o ≡ false → is_nothing_out other ≡ false
+    → CallMove (session_with o left s) event told next → Goes (with_out o left s.world) next.world
+    × CallMove (session_with other more s) event told (session_with other more next)
+line_whatever_is_out s next event told o other left more within out some move =
+    let h = answers_alike s event within in
+    let from = subst (λ answer. MayReply answer told next) (h.is o left out) move in (
       goes_told (session_with o left s) next (session_with o left h.next) h.said told h.memory
           (goes_with_out o left s.world h.next.world h.goes) from,
-      subst (λ answer. MayTell answer told (session_with other more next)) (sym (h.is other more some))
-          (told_with s next h.next h.said told h.memory o other left more from),
+      subst (λ answer. MayReply answer told (session_with other more next)) (sym (h.is other more some))
+          (reply_whatever_is_out s next h.next h.said told h.memory o other left more from),
     )
 
-look_with : (w : World) (asked : Look) (o : Out) (left : List ℕ)
+look_whatever_is_out : (w : World) (asked : Look) (o : Out) (left : List ℕ)
     → look_reply (with_out o left w) asked ≡ look_reply w asked
-look_with w (look.Told ticket) o left = refl
-look_with w (look.ToldCommand ticket) o left = refl
-look_with w (look.SettledBody ticket) o left = refl
-look_with w look.Totals o left = refl
-look_with w look.Records o left = refl
-look_with w look.SettledRecords o left = refl
-look_with w look.IsHalted o left = refl
+look_whatever_is_out w (look.Told ticket) o left = refl
+look_whatever_is_out w (look.ToldCommand ticket) o left = refl
+look_whatever_is_out w (look.SettledBody ticket) o left = refl
+look_whatever_is_out w look.Totals o left = refl
+look_whatever_is_out w look.Records o left = refl
+look_whatever_is_out w look.SettledRecords o left = refl
+look_whatever_is_out w look.IsHalted o left = refl
 
-call_with : (s next : Session) (event : Event) (told : Reply) (o other : Out) (left more : List ℕ)
-    → is_within event ≡ true → is_nothing_out o ≡ false → is_nothing_out other ≡ false
-    → Makes (session_with o left s) event told next → Goes (with_out o left s.world) next.world
-    × Makes (session_with other more s) event told (session_with other more next)
-call_with s next (on.Line event) told o other left more within out some (line, is, move) =
-    let made = line_with s next event line o other left more within out some move in (made.0, (line, is, made.1))
-call_with s next (on.Look asked) told o other left more within out some (is, same) = (
-  subst (λ (t : Session). Goes (with_out o left s.world) t.world) (sym same) (stays_so (with_out o left s.world)).goes,
-  (is ∙ look_with s.world asked o left ∙ sym (look_with s.world asked other more), ap (session_with other more) same),
+event_whatever_is_out : (s next : Session) (event : Event) (told : Reply) (o other : Out) (left more : List ℕ)
+    → is_beside_commit event ≡ true → is_nothing_out o ≡ false → is_nothing_out other ≡ false
+    → EventMove (session_with o left s) event told next → Goes (with_out o left s.world) next.world
+    × EventMove (session_with other more s) event told (session_with other more next)
+event_whatever_is_out s next (on.Line event) told o other left more within out some (line, is, move) =
+    let made = line_whatever_is_out s next event line o other left more within out some move
+    in (made.0, (line, is, made.1))
+event_whatever_is_out s next (on.Look asked) told o other left more within out some (is, same) = (
+  subst (λ (t : Session). Goes (with_out o left s.world) t.world) (sym same)
+      (stages_nothing (with_out o left s.world)).goes,
+  (
+    is ∙ look_whatever_is_out s.world asked o left ∙ sym (look_whatever_is_out s.world asked other more),
+    ap
+        (session_with other more) same,
+  ),
 )
 
--- What a commit of the batch is told, what is out then, and what a stop leaves
+-- The reply to a commit of the batch, what is out then, and what survives a crash
 
 -- what it sees of the world
 abbrev seen : World → ℕ × Out × List ℕ × ℕ × ℕ
@@ -351,14 +368,14 @@ commits_out w told o left some (inr (inl h)) = ap is_nothing_out h.1 ∙ some
 commits_out w told o left some (inr (inr h)) = ap is_nothing_out h.1
 
 commit_made : (s : Session) (told : Reply) (o : Out) (left : List ℕ) → s.world.out ≡ Batch
-    → Commits (seen s.world) told o left → Makes s commit told (session_with o left s)
+    → Commits (seen s.world) told o left → EventMove s commit told (session_with o left s)
 commit_made s told o left out h = at h
   where
-    by : (line : line_reply.Reply) → told ≡ reply.Line line → MayTell (commits s Batch) line (session_with o left s)
-        → Makes s commit told (session_with o left s)
-    by line is may = (line, is, subst (λ x. MayTell (commits s x) line (session_with o left s)) (sym out) may)
+    by : (line : line_reply.Reply) → told ≡ reply.Line line → MayReply (commits s Batch) line (session_with o left s)
+        → EventMove s commit told (session_with o left s)
+    by line is may = (line, is, subst (λ x. MayReply (commits s x) line (session_with o left s)) (sym out) may)
 
-    at : Commits (seen s.world) told o left → Makes s commit told (session_with o left s)
+    at : Commits (seen s.world) told o left → EventMove s commit told (session_with o left s)
     at (inl (is, now, leaves)) = by (says.Committed (length (sealed_records s.world)))
         is (inl (refl, λ i. session_with (now i) (leaves i) s))
     at (inr (inl (is, now, leaves))) = by (says.Refused 4 fault.OutOfMemory)
@@ -366,11 +383,11 @@ commit_made s told o left out h = at h
     at (inr (inr (is, now, leaves))) = by (says.Refused 5 fault.Store)
         is (inr (inr (inl (refl, λ i. session_with (now i) (leaves i) s))))
 
-commit_told : (s next : Session) (told : Reply) → s.world.out ≡ Batch → Makes s commit told next → (o : Out)
+commit_told : (s next : Session) (told : Reply) → s.world.out ≡ Batch → EventMove s commit told next → (o : Out)
     × (left : List ℕ) × Commits (seen s.world) told o left × (next ≡ session_with o left s)
-commit_told s next told out (line, is, move) = at (subst (λ x. MayTell (commits s x) line next) out move)
+commit_told s next told out (line, is, move) = at (subst (λ x. MayReply (commits s x) line next) out move)
   where
-    at : MayTell (commits s Batch) line next → (o : Out) × (left : List ℕ) × Commits (seen s.world) told o left
+    at : MayReply (commits s Batch) line next → (o : Out) × (left : List ℕ) × Commits (seen s.world) told o left
         × (next ≡ session_with o left s)
     at (inl given) = (Receipt, s.world.sealed ∷ [], inl (is ∙ ap reply.Line given.0, refl, refl), given.1)
     at (inr (inl given)) = (s.world.out, s.world.left, inr (inl (is ∙ ap reply.Line given.0, refl, refl)), given.1)
@@ -390,17 +407,17 @@ seen_goes w next g marks =
 record IsBefore (s : Session) (event : Event) (told committed : Reply) (last : Session) : Type 0 where
   mid : Session
   goes : Goes s.world mid.world
-  makes : Makes s event told mid
-  ends : Makes mid commit committed last
+  makes : EventMove s event told mid
+  ends : EventMove mid commit committed last
 
-commit_behind : (s mid last : Session) (event : Event) (told committed : Reply) → s.world.out ≡ Batch
-    → HasMarksInOrder s.world → is_within event ≡ true
-    → Makes s commit committed mid → Makes mid event told last → IsBefore s event told committed last
-commit_behind s mid last event told committed out marks within commits makes =
+commit_after_call : (s mid last : Session) (event : Event) (told committed : Reply) → s.world.out ≡ Batch
+    → HasMarksInOrder s.world → is_beside_commit event ≡ true
+    → EventMove s commit committed mid → EventMove mid event told last → IsBefore s event told committed last
+commit_after_call s mid last event told committed out marks within commits makes =
     let (o, left, how, is) = commit_told s mid committed out commits in
     let some : is_nothing_out s.world.out ≡ false = ap is_nothing_out out in
-    let made = call_with s last event told o s.world.out left s.world.left within
-    (commits_out s.world committed o left some how) some (subst (λ t. Makes t event told last) is makes) in
+    let made = event_whatever_is_out s last event told o s.world.out left s.world.left within
+    (commits_out s.world committed o left some how) some (subst (λ t. EventMove t event told last) is makes) in
     let next : Session = session_with s.world.out s.world.left last in
     let goes : Goes s.world next.world = goes_with_out s.world.out s.world.left (with_out o left s.world) last.world
     made.0 in
@@ -410,25 +427,27 @@ commit_behind s mid last event told committed out marks within commits makes =
       mid = next;
       goes = goes;
       makes = made.1;
-      ends = subst (Makes next commit committed) same
+      ends = subst (EventMove next commit committed) same
           (commit_made next committed o left out again);
     }
 
-commit_ahead : (s next last : Session) (event : Event) (told committed : Reply) → s.world.out ≡ Batch
-    → HasMarksInOrder s.world → is_within event ≡ true
-    → Makes s event told next → Makes next commit committed last → (mid : Session) × Makes s commit committed mid
-    × Makes mid event told last
-commit_ahead s next last event told committed out marks within makes commits =
+commit_before_call : (s next last : Session) (event : Event) (told committed : Reply) → s.world.out ≡ Batch
+    → HasMarksInOrder s.world → is_beside_commit event ≡ true
+    → EventMove s event told next → EventMove next commit committed last → (mid : Session)
+    × EventMove s commit committed mid
+    × EventMove mid event told last
+commit_before_call s next last event told committed out marks within makes commits =
     let some : is_nothing_out s.world.out ≡ false = ap is_nothing_out out in
     let goes : Goes s.world next.world =
-    (call_with s next event told s.world.out s.world.out s.world.left s.world.left within some some makes).0 in
+    (event_whatever_is_out s next event told s.world.out s.world.out s.world.left s.world.left within some some makes).0
+    in
     let (o, left, how, is) = commit_told next last committed (goes.out ∙ out) commits in
     let again = subst (λ v. Commits v committed o left) (sym (seen_goes s.world next.world goes marks)) how in
-    let made = call_with s next event told s.world.out o s.world.left left within some
+    let made = event_whatever_is_out s next event told s.world.out o s.world.left left within some
     (commits_out s.world committed o left some again) makes in (
       session_with o left s,
       commit_made s committed o left out again,
-      subst (Makes (session_with o left s) event told)
+      subst (EventMove (session_with o left s) event told)
           (sym is) made.1,
     )
 
@@ -456,13 +475,14 @@ settled_as w next g marks = ap length (same_first w next w.settled g (omega (ari
 
 -- calls that may be made within show no more than was settled
 run_shows : (events : List Event) (replies : List Reply) (s last : Session) (n : ℕ) → is_nothing_out s.world.out ≡ false
-    → HasMarksInOrder s.world → list_all is_within events ≡ true
-    → Runs s events replies last n → n ≤ length (settled_records s.world)
+    → HasMarksInOrder s.world → list_all is_beside_commit events ≡ true
+    → EventRun s events replies last n → n ≤ length (settled_records s.world)
 run_shows [] [] s last n some marks within (same, none) = omega (arith, none)
 run_shows (event ∷ events) (told ∷ replies) s last n some marks within (next, later, makes, rest, is) =
-    let both = and_parts (is_within event) (list_all is_within events) within in
+    let both = and_parts (is_beside_commit event) (list_all is_beside_commit events) within in
     let goes : Goes s.world next.world =
-    (call_with s next event told s.world.out s.world.out s.world.left s.world.left both.0 some some makes).0 in
+    (event_whatever_is_out s next event told s.world.out s.world.out s.world.left s.world.left both.0 some some makes).0
+    in
     let below = run_shows events replies next last later (ap is_nothing_out goes.out ∙ some)
     (marks_go s.world next.world goes marks) both.1 rest in
     omega (
@@ -483,23 +503,24 @@ commit_shows w (reply.Line told) = refl
 commit_shows w told = refl
 
 -- after the commit a reply shows as much as before it
-shows_behind : (s mid : Session) (event : Event) (told committed : Reply) → s.world.out ≡ Batch
-    → Makes s commit committed mid → shown mid.world event told ≡ shown s.world event told
-shows_behind s mid event told committed out commits =
+shows_same_after_commit : (s mid : Session) (event : Event) (told committed : Reply) → s.world.out ≡ Batch
+    → EventMove s commit committed mid → shown mid.world event told ≡ shown s.world event told
+shows_same_after_commit s mid event told committed out commits =
     let (o, left, how, same) = commit_told s mid committed out commits in ap (λ (t : Session). shown t.world event told)
     same ∙ shows s.world event told o left
 
 -- the commit comes last
-forth : (events : List Event) (replies : List Reply) (s last : Session) (committed : Reply) (n : ℕ)
-    → s.world.out ≡ Batch → HasMarksInOrder s.world → list_all is_within events ≡ true
-    → Runs s (commit ∷ events) (committed ∷ replies) last n
-    → Runs s (events ++ commit ∷ []) (replies ++ committed ∷ []) last n
-forth [] [] s last committed n out marks within run = run
-forth (event ∷ events) (told ∷ replies) s last committed n out marks within
+commit_moved_last : (events : List Event) (replies : List Reply) (s last : Session) (committed : Reply) (n : ℕ)
+    → s.world.out ≡ Batch → HasMarksInOrder s.world → list_all is_beside_commit events ≡ true
+    → EventRun s (commit ∷ events) (committed ∷ replies) last n
+    → EventRun s (events ++ commit ∷ []) (replies ++ committed ∷ []) last n
+commit_moved_last [] [] s last committed n out marks within run = run
+commit_moved_last (event ∷ events) (told ∷ replies) s last committed n out marks within
     (mid, later, commits, (next, more, makes, rest, is), all) =
-    let both = and_parts (is_within event) (list_all is_within events) within in
-    let h = commit_behind s mid next event told committed out marks both.0 commits makes in
-    let run = forth events replies h.mid last committed (max (shown h.mid.world commit committed) more) (h.goes.out
+    let both = and_parts (is_beside_commit event) (list_all is_beside_commit events) within in
+    let h = commit_after_call s mid next event told committed out marks both.0 commits makes in
+    let run = commit_moved_last events replies h.mid last committed (max (shown h.mid.world commit committed) more)
+    (h.goes.out
     ∙ out) (marks_go s.world h.mid.world h.goes marks) both.1 (next, more, h.ends, rest, refl) in (
       h.mid,
       max (shown h.mid.world commit committed) more,
@@ -509,28 +530,31 @@ forth (event ∷ events) (told ∷ replies) s last committed n out marks within
         arith,
         all,
         is,
-        shows_behind s mid event told committed out commits,
+        shows_same_after_commit s mid event told committed out commits,
         commit_shows s.world committed,
         commit_shows h.mid.world committed,
       ),
     )
-forth [] (told ∷ replies) s last committed n out marks within (mid, later, commits, none, all) = absurd none
-forth (event ∷ events) [] s last committed n out marks within (mid, later, commits, none, all) = absurd none
+commit_moved_last [] (told ∷ replies) s last committed n out marks within (mid, later, commits, none, all) = absurd none
+commit_moved_last (event ∷ events) [] s last committed n out marks within (mid, later, commits, none, all) = absurd none
 
--- it comes to stand ahead
-back : (events : List Event) (replies : List Reply) (s last : Session) (committed : Reply) (n : ℕ) → s.world.out ≡ Batch
-    → HasMarksInOrder s.world → list_all is_within events ≡ true
-    → Runs s (events ++ commit ∷ []) (replies ++ committed ∷ []) last n
-    → Runs s (commit ∷ events) (committed ∷ replies) last n
-back [] [] s last committed n out marks within run = run
-back (event ∷ events) (told ∷ replies) s last committed n out marks within (next, later, makes, run, all) =
-    let both = and_parts (is_within event) (list_all is_within events) within in
+-- the commit comes first
+commit_moved_first : (events : List Event) (replies : List Reply) (s last : Session) (committed : Reply) (n : ℕ)
+    → s.world.out ≡ Batch
+    → HasMarksInOrder s.world → list_all is_beside_commit events ≡ true
+    → EventRun s (events ++ commit ∷ []) (replies ++ committed ∷ []) last n
+    → EventRun s (commit ∷ events) (committed ∷ replies) last n
+commit_moved_first [] [] s last committed n out marks within run = run
+commit_moved_first (event ∷ events) (told ∷ replies) s last committed n out marks within
+    (next, later, makes, run, all) =
+    let both = and_parts (is_beside_commit event) (list_all is_beside_commit events) within in
     let some : is_nothing_out s.world.out ≡ false = ap is_nothing_out out in
     let goes : Goes s.world next.world =
-    (call_with s next event told s.world.out s.world.out s.world.left s.world.left both.0 some some makes).0 in
-    let (after, more, commits, rest, is) = back events replies next last committed later (goes.out ∙ out)
+    (event_whatever_is_out s next event told s.world.out s.world.out s.world.left s.world.left both.0 some some makes).0
+    in
+    let (after, more, commits, rest, is) = commit_moved_first events replies next last committed later (goes.out ∙ out)
     (marks_go s.world next.world goes marks) both.1 run in
-    let (mid, first, behind) = commit_ahead s next after event told committed out marks both.0 makes commits in (
+    let (mid, first, behind) = commit_before_call s next after event told committed out marks both.0 makes commits in (
       mid,
       max (shown mid.world event told) more,
       first,
@@ -539,27 +563,29 @@ back (event ∷ events) (told ∷ replies) s last committed n out marks within (
         arith,
         all,
         is,
-        shows_behind s mid event told committed out first,
+        shows_same_after_commit s mid event told committed out first,
         commit_shows s.world committed,
         commit_shows next.world committed,
       ),
     )
-back [] (told ∷ []) s last committed n out marks within (next, later, makes, none, all) = absurd none
-back [] (told ∷ other ∷ replies) s last committed n out marks within (next, later, makes, none, all) = absurd none
-back (event ∷ []) [] s last committed n out marks within (next, later, makes, none, all) = absurd none
-back (event ∷ other ∷ events) [] s last committed n out marks within (next, later, makes, none, all) = absurd none
+commit_moved_first [] (told ∷ []) s last committed n out marks within (next, later, makes, none, all) = absurd none
+commit_moved_first [] (told ∷ other ∷ replies) s last committed n out marks within (next, later, makes, none, all) =
+    absurd none
+commit_moved_first (event ∷ []) [] s last committed n out marks within (next, later, makes, none, all) = absurd none
+commit_moved_first (event ∷ other ∷ events) [] s last committed n out marks within (next, later, makes, none, all) =
+    absurd none
 
 pub calls_change_places : CallsChangePlacesWithCommits
 calls_change_places s last events replies committed n out marks within = (
   (
-    forth events replies s last committed n out marks within,
-    back events replies s last committed n out marks
+    commit_moved_last events replies s last committed n out marks within,
+    commit_moved_first events replies s last committed n out marks
         within,
   ),
   below,
 )
   where
-    below : Runs s (commit ∷ events) (committed ∷ replies) last n → n ≤ length (settled_records s.world)
+    below : EventRun s (commit ∷ events) (committed ∷ replies) last n → n ≤ length (settled_records s.world)
     below (mid, later, commits, run, is) =
         let (o, left, how, same) = commit_told s mid committed out commits in
         omega (
@@ -568,7 +594,7 @@ calls_change_places s last events replies committed n out marks within = (
           commit_shows s.world committed,
           run_shows events replies (session_with o left s) last later
               (commits_out s.world committed o left (ap is_nothing_out out) how) marks within
-              (subst (λ t. Runs t events replies last later) same run),
+              (subst (λ t. EventRun t events replies last later) same run),
         )
 
 -- The marks stay in order

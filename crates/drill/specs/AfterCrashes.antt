@@ -1,4 +1,4 @@
--- What was shown to be settled, over restarts.
+-- What was shown as settled survives restarts.
 use Rattle.std.specs.Prelude.{◌≡◌, ◌⊎◌, ℕ, List, [], ◌∷◌}
 use Rattle.sqlite.specs.Store.{Ghosts}
 use Rattle.spool.specs.Vaults.{VaultValue}
@@ -11,49 +11,50 @@ use Rattle.recovery.specs.Reopenings.{AreOpenedAtOne}
 use Rattle.drill.specs.declared.events.Event.{Event}
 use Rattle.drill.specs.declared.events.Reply.{Reply}
 use Rattle.drill.specs.declared.runs.World as left
-use Rattle.drill.specs.Events.{Runs, KeepsFirst}
+use Rattle.drill.specs.Events.{EventRun, KeepsFirst}
 use Rattle.drill.specs.Moves.{Session, begun}
-use Rattle.drill.specs.Restarts.{Replay}
-use Rattle.drill.specs.Within.{HasMarksInOrder}
+use Rattle.drill.specs.Restarts.{LineRun}
+use Rattle.drill.specs.BesideCommit.{HasMarksInOrder}
 use Rattle.drill.specs.Worlds.{GoesOn, IsOpening, IsRunFrom, session_of}
 
--- A law: a run leads to a world that goes on from the one in which it began. So within a run no step is lost, and what
--- is settled stays so.
+-- A law: a run leads to a world that goes on from the one in which it began. So a run loses no
+-- step, and what is settled stays settled.
 abbrev pub RunsGoOn : Type 0
 RunsGoOn =
     (s last : Session) (events : List Event) (replies : List Reply) (acknowledged : ℕ)
-    → HasMarksInOrder s.world → Runs s events replies last acknowledged → GoesOn s.world last.world
+    → HasMarksInOrder s.world → EventRun s events replies last acknowledged → GoesOn s.world last.world
 
--- the other world has the records of the first steps, for one of these numbers of steps
-abbrev pub HasOneOf : World → (numbers : List ℕ) → World → Type 0
-HasOneOf w [] other = ⊥
-HasOneOf w (steps ∷ others) other = (all_records other ≡ records_of_first w steps) ⊎ HasOneOf w others other
+-- the other world has the records of this world's first steps, for one of these numbers of steps
+abbrev pub HasRecordsLeft : World → (numbers : List ℕ) → World → Type 0
+HasRecordsLeft w [] other = ⊥
+HasRecordsLeft w (steps ∷ others) other = (all_records other ≡ records_of_first w steps) ⊎ HasRecordsLeft w others other
 
--- Runs one after another, each from an opening of what a stop left of the world before.
-abbrev pub RunsAgain : World → (runs : List (List Event × List Reply)) → (last : World) → Type 0
-RunsAgain w [] last = last ≡ w
-RunsAgain w (run ∷ runs) last = (opening : World) × (next : Session) × (acknowledged : ℕ)
-    × IsOpening opening × HasOneOf w w.left opening × Runs (session_of opening) run.0 run.1 next acknowledged
-    × RunsAgain next.world runs last
+-- Runs one after another, each from an opening of what survived a crash of the world before.
+abbrev pub RunsAfterCrashes : World → (runs : List (List Event × List Reply)) → (last : World) → Type 0
+RunsAfterCrashes w [] last = last ≡ w
+RunsAfterCrashes w (run ∷ runs) last = (opening : World) × (next : Session) × (acknowledged : ℕ)
+    × IsOpening opening × HasRecordsLeft w w.left opening × EventRun (session_of opening) run.0 run.1 next acknowledged
+    × RunsAfterCrashes next.world runs last
 
--- A law of any number of restarts: what a run showed to be settled, any stop of a later run leaves in front, in the
--- same places.
+-- A law of any number of restarts: what a run showed as settled survives any crash of a later run,
+-- in the same places.
 abbrev pub RestartsKeepWhatWasShown : Type 0
 RestartsKeepWhatWasShown =
     (w last : World) (events : List Event) (replies : List Reply) (first : Session) (acknowledged : ℕ)
     (runs : List (List Event × List Reply))
-    → IsOpening w → Runs (session_of w) events replies first acknowledged → RunsAgain first.world runs last
+    → IsOpening w → EventRun (session_of w) events replies first acknowledged → RunsAfterCrashes first.world runs last
     → KeepsFirst last acknowledged (all_records first.world)
 
--- The same law of scripts: what the first lines showed survives a stop after further ones, however many stops are
--- among them.
+-- The same law for scripts: what the first lines showed survives a stop after further lines,
+-- however many stops are among them.
 abbrev pub StopsKeepWhatWasShown : Type 0
 StopsKeepWhatWasShown =
     (lines more : List Line) (replies others : List line.Reply) (first last : Session) (acknowledged later : ℕ)
-    → Replay begun lines replies first acknowledged → Replay first more others last later
+    → LineRun begun lines replies first acknowledged → LineRun first more others last later
     → KeepsFirst last.world acknowledged (all_records first.world)
 
--- The same of the calls, by what they say alone: `run`, then `reopen` on what a stop left, and `run` from there.
+-- The same by the contracts alone: of `run`, of `reopen` on what survived a crash, and of `run`
+-- from there.
 abbrev pub CallsKeepWhatWasShown : (L : Type 0) {S : Type 0} → Ghosts S → Type 0
 CallsKeepWhatWasShown L {S} g =
     (s : Session) (events more : List Event) (to later : left.World L S) (desk : DeskValue) (vault : VaultValue S)

@@ -5,7 +5,7 @@ use Rattle.std.proofs.lemmas.List.Sums.{sum_by_push}
 use Rattle.drill.specs.declared.events.Event.{Event}
 use Rattle.drill.specs.declared.prepared.Prepared.{Prepared}
 use Rattle.drill.specs.Cores.{most_tickets_of}
-use Rattle.drill.specs.Places.{all_tickets, events_of}
+use Rattle.drill.specs.Memory.{all_tickets, events_of}
 
 pub prepared_more : (calls : List Prepared) (call : Prepared) → events_of (calls ++ call ∷ []) ≡ events_of calls
     ++ call.event ∷ []

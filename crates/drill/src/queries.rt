@@ -8,7 +8,7 @@ use crate::replies::told_reply;
 use desk::Desk;
 use std::sync::ledger::Ledger;
 
-// What the look is told.
+// The reply to the look.
 pub(crate) fn look_at<L: Ledger>(desk: &Desk<L>, look: Look) -> Reply
     ensures { OverWorlds desk.now (λ w. result ≡ look_reply w look) }
 {
