@@ -6,11 +6,11 @@ use Rattle.desk.specs.declared.command.Command.{Command}
 use Rattle.delivery.specs.Logs.{ChangeValue}
 use Rattle.intake_shed.specs.Acks.{AckValue, PublishAckValue, AreBelow, IsOfEvent, IsOfPublish}
 use Rattle.intake_shed.specs.Answers.{Answers, AcceptsEvent, AcceptsPublish, FailsBy, GivesPageAt, IsNoRefusal}
-use Rattle.intake_shed.specs.Answers.{IsPublishTold, IsTold}
+use Rattle.intake_shed.specs.Answers.{IsPublishReply, IsEventReply}
 use Rattle.intake_shed.specs.Answers.{OrLacksMemory, may_fail, may_fail_event, may_fail_publish}
 use Rattle.intake_shed.specs.Pages.{asks_for_page}
 use Rattle.intake_shed.specs.Replies.{ask_reply, out_of_memory}
-use Rattle.intake_shed.specs.Requests.{Gives, Tells}
+use Rattle.intake_shed.specs.Requests.{IsReadAs, IsRefusedWith}
 use Rattle.intake_shed.specs.declared.ask.Asked.{Asked}
 use Rattle.intake_shed.specs.declared.ask.Asked.TheVariants as asked
 use Rattle.intake_shed.specs.declared.fault.RequestError.{RequestError}
@@ -35,22 +35,23 @@ change_may_fail command submit.Unknown h = refl
 change_may_fail command submit.WentBack h = refl
 
 -- an event that was waited for is acknowledged, or isn't
-pub told_event : (name id body : Text) (seen : ℕ) (waited : Result AckValue SubmitError) (reply : Reply)
+pub event_answers : (name id body : Text) (seen : ℕ) (waited : Result AckValue SubmitError) (reply : Reply)
     (given : Option AckValue)
     → IfOk waited (λ ack. IsOfEvent ack name id body) → IfOk waited (λ ack. ack.seq < seen)
-    → IfErr waited (λ why. IsTrue (may_fail_event why)) → IsTold waited reply → IfOk waited (λ ack. given ≡ Some ack)
+    → IfErr waited (λ why. IsTrue (may_fail_event why)) → IsEventReply waited reply
+    → IfOk waited (λ ack. given ≡ Some ack)
     → AcceptsEvent name id body seen reply given ⊎ FailsBy may_fail_event reply
-told_event name id body seen (Ok ack) reply given event below may told is = inl (ack, is, event, below, told)
-told_event name id body seen (Err why) reply given event below may told is = inr (why, may, told)
+event_answers name id body seen (Ok ack) reply given event below may told is = inl (ack, is, event, below, told)
+event_answers name id body seen (Err why) reply given event below may told is = inr (why, may, told)
 
 -- so is one for a topic
-pub told_publish : (topic id body : Text) (seen : ℕ) (waited : Result PublishAckValue SubmitError) (reply : Reply)
+pub publish_answers : (topic id body : Text) (seen : ℕ) (waited : Result PublishAckValue SubmitError) (reply : Reply)
     (published : Option PublishAckValue) → IfOk waited (λ ack. IsOfPublish ack topic id body)
     → IfOk waited (λ ack. AreBelow seen ack.event.tickets) → IfErr waited (λ why. IsTrue (may_fail_publish why))
-    → IsPublishTold waited reply → IfOk waited (λ ack. published ≡ Some ack)
+    → IsPublishReply waited reply → IfOk waited (λ ack. published ≡ Some ack)
     → AcceptsPublish topic id body seen reply published ⊎ FailsBy may_fail_publish reply
-told_publish topic id body seen (Ok ack) reply published event below may told is = inl (ack, is, event, below, told)
-told_publish topic id body seen (Err why) reply published event below may told is = inr (why, may, told)
+publish_answers topic id body seen (Ok ack) reply published event below may told is = inl (ack, is, event, below, told)
+publish_answers topic id body seen (Err why) reply published event below may told is = inr (why, may, told)
 
 -- a page that is asked for
 pub page_answers : (what : Asked) (seen : ℕ) (reply : Reply) (given : Option AckValue)
@@ -79,23 +80,23 @@ same_reply a b e = cc
 -- what is asked for is the one thing that the request asks for
 pub answers_what : (read what : Asked) (seen : ℕ) (reply : Reply) (given : Option AckValue)
     (published : Option PublishAckValue)
-    (confirmed : Option ChangeValue) → Gives (Ok read) what → Answers read seen reply given published confirmed
+    (confirmed : Option ChangeValue) → IsReadAs (Ok read) what → Answers read seen reply given published confirmed
     → OrLacksMemory (Answers what seen reply given published confirmed) reply
 answers_what read what seen reply given published confirmed (inl e) h =
     inl (subst (λ (a : Asked). Answers a seen reply given published confirmed) (same_asked read what e) h)
 answers_what read what seen reply given published confirmed (inr e) h = cc
 
--- what isn't read though it asks for something lacks memory
-pub not_read_lacks : (what : Asked) (P : Type 0) (reply : Reply) → Gives (Err reply) what → OrLacksMemory P reply
+-- a request that asks for something and isn't read is out of memory
+pub not_read_lacks : (what : Asked) (P : Type 0) (reply : Reply) → IsReadAs (Err reply) what → OrLacksMemory P reply
 not_read_lacks what P reply (inl e) = cc
 not_read_lacks what P reply (inr e) = inr (same_reply reply out_of_memory e)
 
 -- what is refused isn't read
-pub read_not_refused : (read : Asked) (why : RequestError) → Tells (Ok read) why → ⊥
+pub read_not_refused : (read : Asked) (why : RequestError) → IsRefusedWith (Ok read) why → ⊥
 read_not_refused read why (inl e) = cc
 read_not_refused read why (inr e) = cc
 
-pub refused_so : (why : RequestError) (reply : Reply) → Tells (Err reply) why
+pub refused_reply : (why : RequestError) (reply : Reply) → IsRefusedWith (Err reply) why
     → OrLacksMemory (reply ≡ ask_reply why) reply
-refused_so why reply (inl e) = inl (same_reply reply (ask_reply why) e)
-refused_so why reply (inr e) = inr (same_reply reply out_of_memory e)
+refused_reply why reply (inl e) = inl (same_reply reply (ask_reply why) e)
+refused_reply why reply (inr e) = inr (same_reply reply out_of_memory e)

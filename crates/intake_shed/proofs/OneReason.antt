@@ -1,4 +1,4 @@
--- A request asks for one thing at most, or is refused for one check, and not both.
+-- A request asks for at most one thing or fails one check, and not both.
 use Rattle.std.proofs.Common.{◌≡◌, ◌≢◌, ℕ, Bool, true, false, List, [], ◌∷◌, Err, IsTrue, ◌&&◌, ◌⊎◌, inl, inr, codes}
 use Rattle.std.proofs.Common.{refl, sym, ap, ◌∙◌, subst}
 use Rattle.std.specs.List.{join_with_byte}
@@ -10,22 +10,23 @@ use Rattle.serde_json.specs.Data.{Num, unsigned, Data, boolean, number, string, 
 use Rattle.relay_types.specs.Values.{Text, is_target, is_max_limit, is_moment}
 use Rattle.desk.specs.declared.command.Command.TheVariants as change
 use Rattle.intake_shed.specs.Bodies.{IsJson, HasPutMembers, HasSecrets, HasFlag, HasBefore, strings, is_before, is_max}
-use Rattle.intake_shed.specs.Bodies.{AreNoSecrets, Says, IsBadMember, IsBadPut, IsBadSecrets, IsBadFlag, IsBadBefore}
-use Rattle.intake_shed.specs.Bodies.{OfBody}
-use Rattle.intake_shed.specs.Lines.{Line, Put, SetSecrets, SetEnabled, SetSubscribed, Submit, Publish, Retention}
-use Rattle.intake_shed.specs.Lines.{Totals}
-use Rattle.intake_shed.specs.Lines.{Endpoint, Event, before_query, has_name}
+use Rattle.intake_shed.specs.Bodies.{AreNoSecrets, SaysCommand, IsBadMember, IsBadPut, IsBadSecrets, IsBadFlag}
+use Rattle.intake_shed.specs.Bodies.{IsBadBefore}
+use Rattle.intake_shed.specs.Bodies.{IsBadByValue}
+use Rattle.intake_shed.specs.RouteTable.{RouteValue, Put, SetSecrets, SetEnabled, SetSubscribed, Submit, Publish}
+use Rattle.intake_shed.specs.RouteTable.{Retention}
+use Rattle.intake_shed.specs.RouteTable.{Totals, Endpoint, Event, before_query, has_name}
 use Rattle.intake_shed.specs.Replies.{ask_reply, out_of_memory}
-use Rattle.intake_shed.specs.Requests.{IsOn, AsksFor, IsOfBody, IsBadBody, IsBadOn, IsRefusedFor, IsNotReadFor, Gives}
-use Rattle.intake_shed.specs.Requests.{Tells}
-use Rattle.intake_shed.specs.Requests.{line_asked, has_room, has_id, has_parts, bytes_of}
+use Rattle.intake_shed.specs.Requests.{IsOnRoute, AsksFor, AgreesWithBody, IsBadBody, FailsOnRoute, IsRefusedFor}
+use Rattle.intake_shed.specs.Requests.{IsNotReadFor, IsReadAs}
+use Rattle.intake_shed.specs.Requests.{IsRefusedWith, route_of_asked, is_within_limit, has_id, has_parts, bytes_of}
 use Rattle.intake_shed.specs.declared.ask.Ask.{Ask}
 use Rattle.intake_shed.specs.declared.ask.Asked.{Asked}
 use Rattle.intake_shed.specs.declared.ask.Asked.TheVariants as asked
 use Rattle.intake_shed.specs.declared.fault.RequestError.{RequestError}
 use Rattle.intake_shed.specs.declared.fault.RequestError.TheVariants as fault
 use Rattle.intake_shed.specs.declared.reply.Reply.{Reply}
-use Rattle.intake_shed.proofs.OneLine.{one_line}
+use Rattle.intake_shed.proofs.OneRoute.{one_route}
 
 -- ---- a body has one value, and one member of each name
 
@@ -79,7 +80,7 @@ one_texts value url url' max max' list list' h k = one_list value list list' h.o
 one_secrets_list : (texts a b : List Text) → AreSecretTexts texts a → AreSecretTexts texts b → a ≡ b
 one_secrets_list texts a b h k = one_secrets (join_with_byte 44 texts) a b (texts, refl, h) (texts, refl, k)
 
--- ---- a body is refused for one check
+-- ---- a body fails one check
 
 not_both : (b : Bool) → IsTrue b → b ≡ false → ⊥
 not_both b holds fails = true_not_false (sym holds ∙ fails)
@@ -158,7 +159,7 @@ HasBadMembers value why = (url : Text) × (max : Num) × (list : List Text) × H
 abbrev HasBadPut : (body : Text) → RequestError → Type 0
 HasBadPut body why = (value : Data) × IsJson body value × HasBadMembers value why
 
-put_stage : (body : Text) (why : RequestError) → why ≢ fault.OutOfMemory → OfBody IsBadPut body why
+put_stage : (body : Text) (why : RequestError) → why ≢ fault.OutOfMemory → IsBadByValue IsBadPut body why
     → ((why ≡ fault.BadBody) × LacksPut body) ⊎ HasBadPut body why
 put_stage body fault.NotFound m h = inr h
 put_stage body fault.BadName m h = inr h
@@ -203,7 +204,7 @@ HasBadTexts value = (list : List Text) × HasSecrets value list × AreNoSecrets 
 abbrev HasBadList : (body : Text) → Type 0
 HasBadList body = (value : Data) × IsJson body value × HasBadTexts value
 
-secrets_stage : (body : Text) (why : RequestError) → why ≢ fault.OutOfMemory → OfBody IsBadSecrets body why
+secrets_stage : (body : Text) (why : RequestError) → why ≢ fault.OutOfMemory → IsBadByValue IsBadSecrets body why
     → ((why ≡ fault.BadBody) × LacksList body) ⊎ ((why ≡ fault.BadSecret) × HasBadList body)
 secrets_stage body fault.NotFound m h = absurd h.2
 secrets_stage body fault.BadName m h = absurd h.2
@@ -228,7 +229,7 @@ one_secrets_fault body a b (inr (e, h)) (inr (f, k)) = e ∙ sym f
 abbrev LacksFlag : (name body : Text) → Type 0
 LacksFlag name body = (value : Data) → IsJson body value → (flag : Bool) → ¬ HasFlag value name flag
 
-flag_stage : (name body : Text) (why : RequestError) → why ≢ fault.OutOfMemory → OfBody (IsBadFlag name) body why
+flag_stage : (name body : Text) (why : RequestError) → why ≢ fault.OutOfMemory → IsBadByValue (IsBadFlag name) body why
     → (why ≡ fault.BadBody) × LacksFlag name body
 flag_stage name body fault.NotFound m h = absurd h.2
 flag_stage name body fault.BadName m h = absurd h.2
@@ -242,7 +243,7 @@ flag_stage name body fault.BadMoment m h = absurd h.2
 flag_stage name body fault.OutOfMemory m h = absurd (m refl)
 
 one_flag_fault : (name body : Text) (a b : RequestError) → a ≢ fault.OutOfMemory → b ≢ fault.OutOfMemory
-    → OfBody (IsBadFlag name) body a → OfBody (IsBadFlag name) body b → a ≡ b
+    → IsBadByValue (IsBadFlag name) body a → IsBadByValue (IsBadFlag name) body b → a ≡ b
 one_flag_fault name body a b m n h k = (flag_stage name body a m h).0 ∙ sym (flag_stage name body b n k).0
 
 -- the body of a purge lacks its moment, or has a bad one
@@ -255,7 +256,7 @@ HasBadMoment value = (before : Num) × HasBefore value before × (is_before befo
 abbrev HasBadBefore : (body : Text) → Type 0
 HasBadBefore body = (value : Data) × IsJson body value × HasBadMoment value
 
-before_stage : (body : Text) (why : RequestError) → why ≢ fault.OutOfMemory → OfBody IsBadBefore body why
+before_stage : (body : Text) (why : RequestError) → why ≢ fault.OutOfMemory → IsBadByValue IsBadBefore body why
     → ((why ≡ fault.BadBody) × LacksBefore body) ⊎ ((why ≡ fault.BadMoment) × HasBadBefore body)
 before_stage body fault.NotFound m h = absurd h.2
 before_stage body fault.BadName m h = absurd h.2
@@ -302,8 +303,8 @@ no_bad_publish topic body fault.BadSecret m h = h
 no_bad_publish topic body fault.BadMoment m h = h
 no_bad_publish topic body fault.OutOfMemory m h = m refl
 
-one_bad_body : (line : Line) (body : Text) (a b : RequestError) → a ≢ fault.OutOfMemory → b ≢ fault.OutOfMemory
-    → IsBadBody line body a → IsBadBody line body b → a ≡ b
+one_bad_body : (route : RouteValue) (body : Text) (a b : RequestError) → a ≢ fault.OutOfMemory → b ≢ fault.OutOfMemory
+    → IsBadBody route body a → IsBadBody route body b → a ≡ b
 one_bad_body (Put name) body a b m n h k = one_put_fault body a b m n (put_stage body a m h) (put_stage body b n k)
 one_bad_body (SetSecrets name) body a b m n h k = one_secrets_fault body a b (secrets_stage body a m h)
     (secrets_stage body b n k)
@@ -317,71 +318,75 @@ one_bad_body Totals body a b m n h k = absurd h
 one_bad_body (Endpoint name) body a b m n h k = absurd h
 one_bad_body (Event name id) body a b m n h k = absurd h
 
--- ---- a request is refused for one check
+-- ---- a request fails one check
 
--- which check on a line it is
-abbrev Stage : Line → Ask → RequestError → Type 0
-Stage line ask why = ((why ≡ fault.BadName) × (has_name line ≡ false))
-    ⊎ (((why ≡ fault.TooLong) × IsTrue (has_name line) × (has_room ask.body ≡ false))
-    ⊎ (((why ≡ fault.BadId) × IsTrue (has_name line && has_room ask.body) × (has_id line ask ≡ false))
-    ⊎ (IsTrue (has_parts line ask) × IsBadBody line (bytes_of ask.body) why)))
+-- which check on a route it is
+abbrev Stage : RouteValue → Ask → RequestError → Type 0
+Stage route ask why = ((why ≡ fault.BadName) × (has_name route ≡ false))
+    ⊎ (((why ≡ fault.TooLong) × IsTrue (has_name route) × (is_within_limit ask.body ≡ false))
+    ⊎ (((why ≡ fault.BadId) × IsTrue (has_name route && is_within_limit ask.body) × (has_id route ask ≡ false))
+    ⊎ (IsTrue (has_parts route ask) × IsBadBody route (bytes_of ask.body) why)))
 
-stage : (line : Line) (ask : Ask) (why : RequestError) → IsBadOn line ask why → Stage line ask why
-stage line ask fault.NotFound h = inr (inr (inr h))
-stage line ask fault.BadName h = inl (refl, h)
-stage line ask fault.TooLong h = inr (inl (refl, h.0, h.1))
-stage line ask fault.BadId h = inr (inr (inl (refl, h.0, h.1)))
-stage line ask fault.BadBody h = inr (inr (inr h))
-stage line ask fault.BadUrl h = inr (inr (inr h))
-stage line ask fault.BadMax h = inr (inr (inr h))
-stage line ask fault.BadSecret h = inr (inr (inr h))
-stage line ask fault.BadMoment h = inr (inr (inr h))
-stage line ask fault.OutOfMemory h = inr (inr (inr h))
+stage : (route : RouteValue) (ask : Ask) (why : RequestError) → FailsOnRoute route ask why → Stage route ask why
+stage route ask fault.NotFound h = inr (inr (inr h))
+stage route ask fault.BadName h = inl (refl, h)
+stage route ask fault.TooLong h = inr (inl (refl, h.0, h.1))
+stage route ask fault.BadId h = inr (inr (inl (refl, h.0, h.1)))
+stage route ask fault.BadBody h = inr (inr (inr h))
+stage route ask fault.BadUrl h = inr (inr (inr h))
+stage route ask fault.BadMax h = inr (inr (inr h))
+stage route ask fault.BadSecret h = inr (inr (inr h))
+stage route ask fault.BadMoment h = inr (inr (inr h))
+stage route ask fault.OutOfMemory h = inr (inr (inr h))
 
-named : (line : Line) (ask : Ask) → IsTrue (has_parts line ask) → IsTrue (has_name line)
-named line ask h = (and_parts (has_name line) (has_room ask.body && has_id line ask) h).0
+name_passes : (route : RouteValue) (ask : Ask) → IsTrue (has_parts route ask) → IsTrue (has_name route)
+name_passes route ask h = (and_parts (has_name route) (is_within_limit ask.body && has_id route ask) h).0
 
-roomy : (line : Line) (ask : Ask) → IsTrue (has_parts line ask) → IsTrue (has_room ask.body)
-roomy line ask h = (and_parts (has_room ask.body) (has_id line ask)
-    (and_parts (has_name line) (has_room ask.body && has_id line ask) h).1).0
+body_passes : (route : RouteValue) (ask : Ask) → IsTrue (has_parts route ask) → IsTrue (is_within_limit ask.body)
+body_passes route ask h = (and_parts (is_within_limit ask.body) (has_id route ask)
+    (and_parts (has_name route) (is_within_limit ask.body && has_id route ask) h).1).0
 
-given : (line : Line) (ask : Ask) → IsTrue (has_parts line ask) → IsTrue (has_id line ask)
-given line ask h = (and_parts (has_room ask.body) (has_id line ask)
-    (and_parts (has_name line) (has_room ask.body && has_id line ask) h).1).1
+id_passes : (route : RouteValue) (ask : Ask) → IsTrue (has_parts route ask) → IsTrue (has_id route ask)
+id_passes route ask h = (and_parts (is_within_limit ask.body) (has_id route ask)
+    (and_parts (has_name route) (is_within_limit ask.body && has_id route ask) h).1).1
 
-one_stage : (line : Line) (ask : Ask) (a b : RequestError) → a ≢ fault.OutOfMemory → b ≢ fault.OutOfMemory
-    → Stage line ask a → Stage line ask b → a ≡ b
-one_stage line ask a b m n (inl (e, x)) (inl (f, z)) = e ∙ sym f
-one_stage line ask a b m n (inl (e, x)) (inr (inl (f, z, u))) = absurd (not_both _ z x)
-one_stage line ask a b m n (inl (e, x)) (inr (inr (inl (f, z, u)))) = absurd
-    (not_both _ (and_parts (has_name line) (has_room ask.body) z).0 x)
-one_stage line ask a b m n (inl (e, x)) (inr (inr (inr (z, u)))) = absurd (not_both _ (named line ask z) x)
-one_stage line ask a b m n (inr (inl (e, x, y))) (inl (f, z)) = absurd (not_both _ x z)
-one_stage line ask a b m n (inr (inl (e, x, y))) (inr (inl (f, z, u))) = e ∙ sym f
-one_stage line ask a b m n (inr (inl (e, x, y))) (inr (inr (inl (f, z, u)))) = absurd
-    (not_both _ (and_parts (has_name line) (has_room ask.body) z).1 y)
-one_stage line ask a b m n (inr (inl (e, x, y))) (inr (inr (inr (z, u)))) = absurd (not_both _ (roomy line ask z) y)
-one_stage line ask a b m n (inr (inr (inl (e, x, y)))) (inl (f, z)) = absurd
-    (not_both _ (and_parts (has_name line) (has_room ask.body) x).0 z)
-one_stage line ask a b m n (inr (inr (inl (e, x, y)))) (inr (inl (f, z, u))) = absurd
-    (not_both _ (and_parts (has_name line) (has_room ask.body) x).1 u)
-one_stage line ask a b m n (inr (inr (inl (e, x, y)))) (inr (inr (inl (f, z, u)))) = e ∙ sym f
-one_stage line ask a b m n (inr (inr (inl (e, x, y)))) (inr (inr (inr (z, u)))) = absurd
-    (not_both _ (given line ask z) y)
-one_stage line ask a b m n (inr (inr (inr (x, y)))) (inl (f, z)) = absurd (not_both _ (named line ask x) z)
-one_stage line ask a b m n (inr (inr (inr (x, y)))) (inr (inl (f, z, u))) = absurd (not_both _ (roomy line ask x) u)
-one_stage line ask a b m n (inr (inr (inr (x, y)))) (inr (inr (inl (f, z, u)))) = absurd
-    (not_both _ (given line ask x) u)
-one_stage line ask a b m n (inr (inr (inr (x, y)))) (inr (inr (inr (z, u)))) = one_bad_body line (bytes_of ask.body) a b
+one_stage : (route : RouteValue) (ask : Ask) (a b : RequestError) → a ≢ fault.OutOfMemory → b ≢ fault.OutOfMemory
+    → Stage route ask a → Stage route ask b → a ≡ b
+one_stage route ask a b m n (inl (e, x)) (inl (f, z)) = e ∙ sym f
+one_stage route ask a b m n (inl (e, x)) (inr (inl (f, z, u))) = absurd (not_both _ z x)
+one_stage route ask a b m n (inl (e, x)) (inr (inr (inl (f, z, u)))) = absurd
+    (not_both _ (and_parts (has_name route) (is_within_limit ask.body) z).0 x)
+one_stage route ask a b m n (inl (e, x)) (inr (inr (inr (z, u)))) = absurd (not_both _ (name_passes route ask z) x)
+one_stage route ask a b m n (inr (inl (e, x, y))) (inl (f, z)) = absurd (not_both _ x z)
+one_stage route ask a b m n (inr (inl (e, x, y))) (inr (inl (f, z, u))) = e ∙ sym f
+one_stage route ask a b m n (inr (inl (e, x, y))) (inr (inr (inl (f, z, u)))) = absurd
+    (not_both _ (and_parts (has_name route) (is_within_limit ask.body) z).1 y)
+one_stage route ask a b m n (inr (inl (e, x, y))) (inr (inr (inr (z, u)))) = absurd
+    (not_both _ (body_passes route ask z) y)
+one_stage route ask a b m n (inr (inr (inl (e, x, y)))) (inl (f, z)) = absurd
+    (not_both _ (and_parts (has_name route) (is_within_limit ask.body) x).0 z)
+one_stage route ask a b m n (inr (inr (inl (e, x, y)))) (inr (inl (f, z, u))) = absurd
+    (not_both _ (and_parts (has_name route) (is_within_limit ask.body) x).1 u)
+one_stage route ask a b m n (inr (inr (inl (e, x, y)))) (inr (inr (inl (f, z, u)))) = e ∙ sym f
+one_stage route ask a b m n (inr (inr (inl (e, x, y)))) (inr (inr (inr (z, u)))) = absurd
+    (not_both _ (id_passes route ask z) y)
+one_stage route ask a b m n (inr (inr (inr (x, y)))) (inl (f, z)) = absurd (not_both _ (name_passes route ask x) z)
+one_stage route ask a b m n (inr (inr (inr (x, y)))) (inr (inl (f, z, u))) = absurd
+    (not_both _ (body_passes route ask x) u)
+one_stage route ask a b m n (inr (inr (inr (x, y)))) (inr (inr (inl (f, z, u)))) = absurd
+    (not_both _ (id_passes route ask x) u)
+one_stage route ask a b m n (inr (inr (inr (x, y)))) (inr (inr (inr (z, u)))) = one_bad_body route (bytes_of ask.body) a
+    b
     m n y u
 
-one_bad_on : (a b : RequestError) (ask : Ask) → a ≢ fault.OutOfMemory → b ≢ fault.OutOfMemory
-    → (line : Line) × IsOn line ask × IsBadOn line ask a → (line : Line) × IsOn line ask × IsBadOn line ask b → a ≡ b
-one_bad_on a b ask m n (line, on, h) (other, stands, k) =
-    let same : other ≡ line = one_line other line ask.method.now (before_query ask.path.now) stands on in
-    one_stage line ask a b m n (stage line ask a h) (stage line ask b (subst (λ l. IsBadOn l ask b) same k))
+one_failure_on_route : (a b : RequestError) (ask : Ask) → a ≢ fault.OutOfMemory → b ≢ fault.OutOfMemory
+    → (route : RouteValue) × IsOnRoute route ask × FailsOnRoute route ask a → (route : RouteValue) × IsOnRoute route ask
+    × FailsOnRoute route ask b → a ≡ b
+one_failure_on_route a b ask m n (route, on, h) (other, stands, k) =
+    let same : other ≡ route = one_route other route ask.method.now (before_query ask.path.now) stands on in
+    one_stage route ask a b m n (stage route ask a h) (stage route ask b (subst (λ l. FailsOnRoute l ask b) same k))
 
--- it stands on a line, and is refused there
+-- it is on a route, and is refused there
 abbrev is_memory : RequestError → Bool
 is_memory fault.NotFound = false
 is_memory fault.BadName = false
@@ -397,35 +402,36 @@ is_memory fault.OutOfMemory = true
 no_memory : (why : RequestError) → is_memory why ≡ false → why ≢ fault.OutOfMemory
 no_memory why e h = true_not_false (ap is_memory (sym h) ∙ e)
 
-abbrev IsBadThere : Ask → RequestError → Type 0
-IsBadThere ask why = (line : Line) × IsOn line ask × IsBadOn line ask why
+abbrev FailsOnItsRoute : Ask → RequestError → Type 0
+FailsOnItsRoute ask why = (route : RouteValue) × IsOnRoute route ask × FailsOnRoute route ask why
 
-abbrev OnLine : Ask → RequestError → Type 0
-OnLine ask why = (why ≢ fault.OutOfMemory) × IsBadThere ask why
+abbrev OnRoute : Ask → RequestError → Type 0
+OnRoute ask why = (why ≢ fault.OutOfMemory) × FailsOnItsRoute ask why
 
-abbrev NoLine : Ask → RequestError → Type 0
-NoLine ask why = (why ≡ fault.NotFound) × ((line : Line) → ¬ IsOn line ask)
+abbrev NoRoute : Ask → RequestError → Type 0
+NoRoute ask why = (why ≡ fault.NotFound) × ((route : RouteValue) → ¬ IsOnRoute route ask)
 
-refused_there : (ask : Ask) (why : RequestError) → IsRefusedFor ask why → NoLine ask why ⊎ OnLine ask why
-refused_there ask fault.NotFound h = inl (refl, h)
-refused_there ask fault.BadName h = inr (no_memory fault.BadName refl, h)
-refused_there ask fault.TooLong h = inr (no_memory fault.TooLong refl, h)
-refused_there ask fault.BadId h = inr (no_memory fault.BadId refl, h)
-refused_there ask fault.BadBody h = inr (no_memory fault.BadBody refl, h)
-refused_there ask fault.BadUrl h = inr (no_memory fault.BadUrl refl, h)
-refused_there ask fault.BadMax h = inr (no_memory fault.BadMax refl, h)
-refused_there ask fault.BadSecret h = inr (no_memory fault.BadSecret refl, h)
-refused_there ask fault.BadMoment h = inr (no_memory fault.BadMoment refl, h)
-refused_there ask fault.OutOfMemory h = absurd h
+refused_on_route : (ask : Ask) (why : RequestError) → IsRefusedFor ask why → NoRoute ask why ⊎ OnRoute ask why
+refused_on_route ask fault.NotFound h = inl (refl, h)
+refused_on_route ask fault.BadName h = inr (no_memory fault.BadName refl, h)
+refused_on_route ask fault.TooLong h = inr (no_memory fault.TooLong refl, h)
+refused_on_route ask fault.BadId h = inr (no_memory fault.BadId refl, h)
+refused_on_route ask fault.BadBody h = inr (no_memory fault.BadBody refl, h)
+refused_on_route ask fault.BadUrl h = inr (no_memory fault.BadUrl refl, h)
+refused_on_route ask fault.BadMax h = inr (no_memory fault.BadMax refl, h)
+refused_on_route ask fault.BadSecret h = inr (no_memory fault.BadSecret refl, h)
+refused_on_route ask fault.BadMoment h = inr (no_memory fault.BadMoment refl, h)
+refused_on_route ask fault.OutOfMemory h = absurd h
 
-one_there : (ask : Ask) (a b : RequestError) → NoLine ask a ⊎ OnLine ask a → NoLine ask b ⊎ OnLine ask b → a ≡ b
-one_there ask a b (inl (e, none)) (inl (f, lacks)) = e ∙ sym f
-one_there ask a b (inl (e, none)) (inr (n, (line, on, k))) = absurd (none line on)
-one_there ask a b (inr (m, (line, on, h))) (inl (f, none)) = absurd (none line on)
-one_there ask a b (inr (m, h)) (inr (n, k)) = one_bad_on a b ask m n h k
+one_check_on_route : (ask : Ask) (a b : RequestError) → NoRoute ask a ⊎ OnRoute ask a → NoRoute ask b ⊎ OnRoute ask b
+    → a ≡ b
+one_check_on_route ask a b (inl (e, none)) (inl (f, lacks)) = e ∙ sym f
+one_check_on_route ask a b (inl (e, none)) (inr (n, (route, on, k))) = absurd (none route on)
+one_check_on_route ask a b (inr (m, (route, on, h))) (inl (f, none)) = absurd (none route on)
+one_check_on_route ask a b (inr (m, h)) (inr (n, k)) = one_failure_on_route a b ask m n h k
 
 pub one_check : (ask : Ask) (a b : RequestError) → IsRefusedFor ask a → IsRefusedFor ask b → a ≡ b
-one_check ask a b h k = one_there ask a b (refused_there ask a h) (refused_there ask b k)
+one_check ask a b h k = one_check_on_route ask a b (refused_on_route ask a h) (refused_on_route ask b k)
 
 -- ---- what is asked for isn't refused
 
@@ -467,8 +473,8 @@ says_before body before v why json has good (inr (e, (v', json', (before', has',
     not_both (is_before before') (subst (λ x. IsTrue (is_before x)) (sym same) good) bad'
 
 says_no_bad : (ask : Ask) (fresh : Text) (what : Asked) (why : RequestError) → why ≢ fault.OutOfMemory
-    → IsOfBody ask fresh what
-    → IsBadBody (line_asked what) (bytes_of ask.body) why → ⊥
+    → AgreesWithBody ask fresh what
+    → IsBadBody (route_of_asked what) (bytes_of ask.body) why → ⊥
 says_no_bad ask fresh (asked.Change (change.PutEndpoint name url limit secrets)) why m
     (value, json, (texts, members, good, are)) h =
     says_put (bytes_of ask.body) url limit texts secrets value why m json members good are
@@ -489,28 +495,32 @@ says_no_bad ask fresh (asked.Event name id) why m says h = h
 
 passes_stage : (ask : Ask) (fresh : Text) (what : Asked) (why : RequestError) → why ≢ fault.OutOfMemory
     → AsksFor ask fresh what
-    → Stage (line_asked what) ask why → ⊥
-passes_stage ask fresh what why m asks (inl (e, x)) = not_both _ (named (line_asked what) ask asks.passes) x
-passes_stage ask fresh what why m asks (inr (inl (e, x, y))) = not_both _ (roomy (line_asked what) ask asks.passes) y
+    → Stage (route_of_asked what) ask why → ⊥
+passes_stage ask fresh what why m asks (inl (e, x)) = not_both _ (name_passes (route_of_asked what) ask asks.passes) x
+passes_stage ask fresh what why m asks (inr (inl (e, x, y))) = not_both _
+    (body_passes (route_of_asked what) ask asks.passes) y
 passes_stage ask fresh what why m asks (inr (inr (inl (e, x, y)))) = not_both _
-    (given (line_asked what) ask asks.passes) y
+    (id_passes (route_of_asked what) ask asks.passes) y
 passes_stage ask fresh what why m asks (inr (inr (inr (x, y)))) = says_no_bad ask fresh what why m asks.says y
 
-asked_there : (ask : Ask) (fresh : Text) (what : Asked) (why : RequestError) → AsksFor ask fresh what → NoLine ask why
-    ⊎ OnLine ask why → ⊥
-asked_there ask fresh what why asks (inl (e, none)) = none (line_asked what) asks.on_line
-asked_there ask fresh what why asks (inr (m, (line, on, h))) =
-    let same : line ≡ line_asked what = one_line line (line_asked what) ask.method.now (before_query ask.path.now) on
-    asks.on_line in
-    passes_stage ask fresh what why m asks (stage (line_asked what) ask why (subst (λ l. IsBadOn l ask why) same h))
+asked_on_route : (ask : Ask) (fresh : Text) (what : Asked) (why : RequestError) → AsksFor ask fresh what
+    → NoRoute ask why
+    ⊎ OnRoute ask why → ⊥
+asked_on_route ask fresh what why asks (inl (e, none)) = none (route_of_asked what) asks.on_route
+asked_on_route ask fresh what why asks (inr (m, (route, on, h))) =
+    let same : route ≡ route_of_asked what = one_route route (route_of_asked what) ask.method.now
+    (before_query ask.path.now) on
+    asks.on_route in
+    passes_stage ask fresh what why m asks
+    (stage (route_of_asked what) ask why (subst (λ l. FailsOnRoute l ask why) same h))
 
 pub asked_not_refused : (ask : Ask) (fresh : Text) (what : Asked) (why : RequestError) → AsksFor ask fresh what
     → IsRefusedFor ask why → ⊥
-asked_not_refused ask fresh what why asks h = asked_there ask fresh what why asks (refused_there ask why h)
+asked_not_refused ask fresh what why asks h = asked_on_route ask fresh what why asks (refused_on_route ask why h)
 
 -- ---- one thing is asked for
 
-abbrev name_of : Line → Text
+abbrev name_of : RouteValue → Text
 name_of (Put name) = name
 name_of (SetSecrets name) = name
 name_of (SetEnabled name) = name
@@ -522,17 +532,17 @@ name_of Totals = []
 name_of (Endpoint name) = name
 name_of (Event name id) = name
 
-abbrev id_in : Line → Text
+abbrev id_in : RouteValue → Text
 id_in (Event name id) = id
-id_in line = []
+id_in route = []
 
-abbrev topic_of : Line → Text
+abbrev topic_of : RouteValue → Text
 topic_of (SetSubscribed name topic) = topic
-topic_of line = []
+topic_of route = []
 
 one_put : (x y u v : Text) (l k : ℕ) (s t : List Text) (body : Text) → x ≡ y
-    → (value : Data) × IsJson body value × Says value (change.PutEndpoint x u l s)
-    → (value : Data) × IsJson body value × Says value (change.PutEndpoint y v k t)
+    → (value : Data) × IsJson body value × SaysCommand value (change.PutEndpoint x u l s)
+    → (value : Data) × IsJson body value × SaysCommand value (change.PutEndpoint y v k t)
     → asked.Change (change.PutEndpoint x u l s) ≡ asked.Change (change.PutEndpoint y v k t)
 one_put x y u v l k s t body e (value, json, (texts, members, good, are))
     (value', json', (texts', members', good', are')) =
@@ -547,8 +557,8 @@ one_put x y u v l k s t body e (value, json, (texts, members, good, are))
     cc
 
 one_set : (x y : Text) (s t : List Text) (body : Text) → x ≡ y
-    → (value : Data) × IsJson body value × Says value (change.SetSecrets x s)
-    → (value : Data) × IsJson body value × Says value (change.SetSecrets y t)
+    → (value : Data) × IsJson body value × SaysCommand value (change.SetSecrets x s)
+    → (value : Data) × IsJson body value × SaysCommand value (change.SetSecrets y t)
     → asked.Change (change.SetSecrets x s) ≡ asked.Change (change.SetSecrets y t)
 one_set x y s t body e (value, json, (texts, has, are)) (value', json', (texts', has', are')) =
     let same : value' ≡ value = one_value body value' value json' json in
@@ -570,8 +580,8 @@ one_subscribed : (s t x y : Text) (u v : Bool) → s ≡ t → x ≡ y → u ≡
     → asked.Change (change.SetSubscribed s x u) ≡ asked.Change (change.SetSubscribed t y v)
 one_subscribed s t x y u v of_topic e of_flag = cc
 
-one_purge : (n k : ℕ) (body : Text) → (value : Data) × IsJson body value × Says value (change.Purge n)
-    → (value : Data) × IsJson body value × Says value (change.Purge k)
+one_purge : (n k : ℕ) (body : Text) → (value : Data) × IsJson body value × SaysCommand value (change.Purge n)
+    → (value : Data) × IsJson body value × SaysCommand value (change.Purge k)
     → asked.Change (change.Purge n) ≡ asked.Change (change.Purge k)
 one_purge n k body (value, json, (has, good)) (value', json', (has', good')) =
     let same : value' ≡ value = one_value body value' value json' json in
@@ -580,8 +590,9 @@ one_purge n k body (value, json, (has, good)) (value', json', (has', good')) =
     let moments : n ≡ k = cc in
     cc
 
-one_of_body : (a b : Asked) (ask : Ask) (fresh : Text) → line_asked a ≡ line_asked b → IsOfBody ask fresh a
-    → IsOfBody ask fresh b → a ≡ b
+one_of_body : (a b : Asked) (ask : Ask) (fresh : Text) → route_of_asked a ≡ route_of_asked b
+    → AgreesWithBody ask fresh a
+    → AgreesWithBody ask fresh b → a ≡ b
 one_of_body (asked.Change (change.PutEndpoint x u l s)) (asked.Change (change.PutEndpoint y v k t)) ask fresh e h g =
     one_put x y u v l k s t (bytes_of ask.body) (ap name_of e) h g
 one_of_body (asked.Change (change.PutEndpoint x u l s)) (asked.Change (change.SetSecrets y t)) ask fresh e h g = cc
@@ -697,8 +708,9 @@ one_of_body (asked.Event x u) (asked.Event y v) ask fresh e h g = let n : x ≡ 
 
 pub one_asked : (ask : Ask) (fresh : Text) (a b : Asked) → AsksFor ask fresh a → AsksFor ask fresh b → a ≡ b
 one_asked ask fresh a b h k =
-    one_of_body a b ask fresh (one_line (line_asked a) (line_asked b) ask.method.now (before_query ask.path.now)
-    h.on_line k.on_line) h.says k.says
+    one_of_body a b ask fresh (one_route (route_of_asked a) (route_of_asked b) ask.method.now
+    (before_query ask.path.now)
+    h.on_route k.on_route) h.says k.says
 
 -- ---- so the answer is the one that the request asks for
 
@@ -715,14 +727,14 @@ not_read ask fault.BadSecret reply e h = inr (fault.BadSecret, e, h)
 not_read ask fault.BadMoment reply e h = inr (fault.BadMoment, e, h)
 not_read ask fault.OutOfMemory reply e h = inl e
 
-pub told : (ask : Ask) (reply : Reply) (why : RequestError) → (reply ≡ out_of_memory)
+pub refuses_with : (ask : Ask) (reply : Reply) (why : RequestError) → (reply ≡ out_of_memory)
     ⊎ ((other : RequestError) × (reply ≡ ask_reply other) × IsRefusedFor ask other)
-    → IsRefusedFor ask why → Tells (Err reply) why
-told ask reply why (inl e) h = inr (ap Err e)
-told ask reply why (inr (other, e, k)) h = inl (ap Err (e ∙ ap ask_reply (one_check ask other why k h)))
+    → IsRefusedFor ask why → IsRefusedWith (Err reply) why
+refuses_with ask reply why (inl e) h = inr (ap Err e)
+refuses_with ask reply why (inr (other, e, k)) h = inl (ap Err (e ∙ ap ask_reply (one_check ask other why k h)))
 
 pub lacks_memory : (ask : Ask) (fresh : Text) (what : Asked) (reply : Reply)
     → (reply ≡ out_of_memory) ⊎ ((other : RequestError) × (reply ≡ ask_reply other) × IsRefusedFor ask other)
-    → AsksFor ask fresh what → Gives (Err reply) what
+    → AsksFor ask fresh what → IsReadAs (Err reply) what
 lacks_memory ask fresh what reply (inl e) h = inr (ap Err e)
 lacks_memory ask fresh what reply (inr (other, e, k)) h = absurd (asked_not_refused ask fresh what other h k)

@@ -5,12 +5,12 @@ use Rattle.std.specs.List.{list_all, position_or_len}
 use Rattle.std.proofs.lemmas.Bool.{and_parts, and_from, eqb-true, eq-eqb}
 use Rattle.text_lines.specs.Parts.{has_no}
 use Rattle.text_lines.proofs.NumberLaws.{bytes_not_equal, true_not_false}
-use Rattle.intake_shed.specs.Lines.{Line, Put, SetSecrets, SetEnabled, SetSubscribed, Submit, Publish, Retention}
-use Rattle.intake_shed.specs.Lines.{Totals}
-use Rattle.intake_shed.specs.Lines.{Endpoint, Event, IsLine, endpoint_path, topic_path}
-use Rattle.intake_shed.specs.Routes.{IsBehindName, StartsAt}
+use Rattle.intake_shed.specs.RouteTable.{RouteValue, Put, SetSecrets, SetEnabled, SetSubscribed, Submit, Publish}
+use Rattle.intake_shed.specs.RouteTable.{Retention}
+use Rattle.intake_shed.specs.RouteTable.{Totals, Endpoint, Event, IsRouteOf, endpoint_path, topic_path}
+use Rattle.intake_shed.specs.Routes.{IsAfterName, StartsAt}
 
--- ---- what stands before the first mark, and from it on
+-- ---- the text before the first mark, and from it on
 
 before-more : (mark c : ℕ) (text : List ℕ) (b : Bool) → (c == mark) ≡ b
     → IsTrue (has_no mark (take (position_or_len (λ x. x == mark) text) text))
@@ -64,7 +64,7 @@ same_cut mark (c ∷ a) (d ∷ b) x y clean cleaner starts begins e =
     let same : c ∷ a ≡ d ∷ b = cc in
     (same, rest.1)
 
--- ---- the line of a path
+-- ---- the route of a path
 
 one_name : (path name its rest end : List ℕ) → path ≡ endpoint_path name rest → IsTrue (has_no 47 name)
     → StartsAt 47 rest
@@ -73,39 +73,39 @@ one_name path name its rest end e clean starts h cleaner begins =
     let tail : name ++ rest ≡ its ++ end = cc in
     same_cut 47 name its rest end clean cleaner starts begins tail
 
-pub behind_name : (line : Line) (method path name rest : List ℕ) → path ≡ endpoint_path name rest
+pub after_name : (route : RouteValue) (method path name rest : List ℕ) → path ≡ endpoint_path name rest
     → IsTrue (has_no 47 name) → StartsAt 47 rest
-    → IsLine line method path → IsBehindName line method name rest
-behind_name (Put its) method path name rest e clean starts h =
+    → IsRouteOf route method path → IsAfterName route method name rest
+after_name (Put its) method path name rest e clean starts h =
     let one = one_name path name its rest [] e clean starts h.of_path (and_parts _ _ h.no_slash).0 tt in
     (h.of_method, one.0, one.1)
-behind_name (SetSecrets its) method path name rest e clean starts h =
+after_name (SetSecrets its) method path name rest e clean starts h =
     let one = one_name path name its rest (codes "/secrets") e clean starts h.of_path (and_parts _ _ h.no_slash).0 refl
     in
     (h.of_method, one.0, one.1)
-behind_name (SetEnabled its) method path name rest e clean starts h =
+after_name (SetEnabled its) method path name rest e clean starts h =
     let one = one_name path name its rest (codes "/enabled") e clean starts h.of_path (and_parts _ _ h.no_slash).0 refl
     in
     (h.of_method, one.0, one.1)
-behind_name (SetSubscribed its topic) method path name rest e clean starts h =
+after_name (SetSubscribed its topic) method path name rest e clean starts h =
     let one =
     one_name path name its rest (codes "/topics/" ++ topic) e clean starts h.of_path (and_parts _ _ h.no_slash).0 refl
     in
     (h.of_method, one.0, one.1, (and_parts _ _ (and_parts _ _ h.no_slash).1).0)
-behind_name (Submit its) method path name rest e clean starts h =
+after_name (Submit its) method path name rest e clean starts h =
     let one = one_name path name its rest (codes "/events") e clean starts h.of_path (and_parts _ _ h.no_slash).0 refl
     in
     (h.of_method, one.0, one.1)
-behind_name (Publish topic) method path name rest e clean starts h =
+after_name (Publish topic) method path name rest e clean starts h =
     bytes_not_equal (topic_path topic) (endpoint_path name rest) false refl refl (sym h.of_path ∙ e)
-behind_name Retention method path name rest e clean starts h =
+after_name Retention method path name rest e clean starts h =
     bytes_not_equal (codes "/v1/retention") (endpoint_path name rest) false refl refl (sym h.of_path ∙ e)
-behind_name Totals method path name rest e clean starts h =
+after_name Totals method path name rest e clean starts h =
     bytes_not_equal (codes "/v1/status") (endpoint_path name rest) false refl refl (sym h.of_path ∙ e)
-behind_name (Endpoint its) method path name rest e clean starts h =
+after_name (Endpoint its) method path name rest e clean starts h =
     let one = one_name path name its rest [] e clean starts h.of_path (and_parts _ _ h.no_slash).0 tt in
     (h.of_method, one.0, one.1)
-behind_name (Event its id) method path name rest e clean starts h =
+after_name (Event its id) method path name rest e clean starts h =
     let one = one_name path name its rest (codes "/events/" ++ id) e clean starts h.of_path (and_parts _ _ h.no_slash).0
     refl in
     (h.of_method, one.0, one.1, (and_parts _ _ (and_parts _ _ h.no_slash).1).0)
@@ -118,37 +118,38 @@ two_parts : (name its part : List ℕ) → name ≡ its → IsTrue (has_no 47 na
 two_parts name its part e clean clear =
     and_from _ _ (subst (λ x. IsTrue (has_no 47 x)) e clean) (and_from _ _ clear refl)
 
-pub is_line : (line : Line) (method path name rest : List ℕ) → path ≡ endpoint_path name rest → IsTrue (has_no 47 name)
-    → IsBehindName line method name rest
-    → IsLine line method path
-is_line (Put its) method path name rest e clean (m, n, r) =
+pub is_route : (route : RouteValue) (method path name rest : List ℕ) → path ≡ endpoint_path name rest
+    → IsTrue (has_no 47 name)
+    → IsAfterName route method name rest
+    → IsRouteOf route method path
+is_route (Put its) method path name rest e clean (m, n, r) =
     record { of_method = m; of_path = cc; no_slash = one_part name its n clean }
-is_line (SetSecrets its) method path name rest e clean (m, n, r) =
+is_route (SetSecrets its) method path name rest e clean (m, n, r) =
     record { of_method = m; of_path = cc; no_slash = one_part name its n clean }
-is_line (SetEnabled its) method path name rest e clean (m, n, r) =
+is_route (SetEnabled its) method path name rest e clean (m, n, r) =
     record { of_method = m; of_path = cc; no_slash = one_part name its n clean }
-is_line (SetSubscribed its topic) method path name rest e clean (m, n, r, clear) = record {
+is_route (SetSubscribed its topic) method path name rest e clean (m, n, r, clear) = record {
   of_method = m;
   of_path = cc;
   no_slash = two_parts name its topic n clean clear;
 }
-is_line (Submit its) method path name rest e clean (m, n, r) =
+is_route (Submit its) method path name rest e clean (m, n, r) =
     record { of_method = m; of_path = cc; no_slash = one_part name its n clean }
-is_line (Publish topic) method path name rest e clean h = absurd h
-is_line Retention method path name rest e clean h = absurd h
-is_line Totals method path name rest e clean h = absurd h
-is_line (Endpoint its) method path name rest e clean (m, n, r) =
+is_route (Publish topic) method path name rest e clean h = absurd h
+is_route Retention method path name rest e clean h = absurd h
+is_route Totals method path name rest e clean h = absurd h
+is_route (Endpoint its) method path name rest e clean (m, n, r) =
     record { of_method = m; of_path = cc; no_slash = one_part name its n clean }
-is_line (Event its id) method path name rest e clean (m, n, r, clear) = record {
+is_route (Event its id) method path name rest e clean (m, n, r, clear) = record {
   of_method = m;
   of_path = cc;
   no_slash = two_parts name its id n clean clear;
 }
 
--- the line of a topic's path
+-- the route of a topic's path
 pub is_publish : (method topic rest : List ℕ) → IsTrue (has_no 47 topic) → method ≡ codes "POST"
     → rest ≡ codes "/events"
-    → IsLine (Publish topic) method (codes "/v1/topics/" ++ (topic ++ rest))
+    → IsRouteOf (Publish topic) method (codes "/v1/topics/" ++ (topic ++ rest))
 is_publish method topic rest clean of_method of_rest = record {
   of_method = of_method;
   of_path = ap (λ (end : List ℕ). codes "/v1/topics/" ++ (topic ++ end)) of_rest;
@@ -168,34 +169,35 @@ pub same_topics : (topic its : List ℕ) → topic_path topic ≡ topic_path its
 same_topics topic its e clean cleaner =
     (one_topic topic its (codes "/events") (codes "/events") e clean refl cleaner refl).0
 
--- a line on which a topic's path stands is that of its events
-pub behind_topics : (line : Line) (method topic rest : List ℕ) → IsTrue (has_no 47 topic) → StartsAt 47 rest
-    → IsLine line method (codes "/v1/topics/" ++ (topic ++ rest)) → (method ≡ codes "POST") × (rest ≡ codes "/events")
-behind_topics (Publish its) method topic rest clean starts h = (
+-- the route of a topic's path is that of its events
+pub after_topics : (route : RouteValue) (method topic rest : List ℕ) → IsTrue (has_no 47 topic) → StartsAt 47 rest
+    → IsRouteOf route method (codes "/v1/topics/" ++ (topic ++ rest)) → (method ≡ codes "POST")
+    × (rest ≡ codes "/events")
+after_topics (Publish its) method topic rest clean starts h = (
   h.of_method,
   (one_topic topic its rest (codes "/events") h.of_path clean starts (and_parts _ _ h.no_slash).0
       refl).1,
 )
-behind_topics (Put its) method topic rest clean starts h = absurd
+after_topics (Put its) method topic rest clean starts h = absurd
     (bytes_not_equal (codes "/v1/topics/" ++ (topic ++ rest)) (endpoint_path its []) false refl refl h.of_path)
-behind_topics (SetSecrets its) method topic rest clean starts h = absurd
+after_topics (SetSecrets its) method topic rest clean starts h = absurd
     (bytes_not_equal (codes "/v1/topics/" ++ (topic ++ rest)) (endpoint_path its (codes "/secrets")) false refl refl
     h.of_path)
-behind_topics (SetEnabled its) method topic rest clean starts h = absurd
+after_topics (SetEnabled its) method topic rest clean starts h = absurd
     (bytes_not_equal (codes "/v1/topics/" ++ (topic ++ rest)) (endpoint_path its (codes "/enabled")) false refl refl
     h.of_path)
-behind_topics (SetSubscribed its u) method topic rest clean starts h = absurd
+after_topics (SetSubscribed its u) method topic rest clean starts h = absurd
     (bytes_not_equal (codes "/v1/topics/" ++ (topic ++ rest)) (endpoint_path its (codes "/topics/" ++ u)) false refl
     refl h.of_path)
-behind_topics (Submit its) method topic rest clean starts h = absurd
+after_topics (Submit its) method topic rest clean starts h = absurd
     (bytes_not_equal (codes "/v1/topics/" ++ (topic ++ rest)) (endpoint_path its (codes "/events")) false refl refl
     h.of_path)
-behind_topics Retention method topic rest clean starts h = absurd
+after_topics Retention method topic rest clean starts h = absurd
     (bytes_not_equal (codes "/v1/topics/" ++ (topic ++ rest)) (codes "/v1/retention") false refl refl h.of_path)
-behind_topics Totals method topic rest clean starts h = absurd
+after_topics Totals method topic rest clean starts h = absurd
     (bytes_not_equal (codes "/v1/topics/" ++ (topic ++ rest)) (codes "/v1/status") false refl refl h.of_path)
-behind_topics (Endpoint its) method topic rest clean starts h = absurd
+after_topics (Endpoint its) method topic rest clean starts h = absurd
     (bytes_not_equal (codes "/v1/topics/" ++ (topic ++ rest)) (endpoint_path its []) false refl refl h.of_path)
-behind_topics (Event its id) method topic rest clean starts h = absurd
+after_topics (Event its id) method topic rest clean starts h = absurd
     (bytes_not_equal (codes "/v1/topics/" ++ (topic ++ rest)) (endpoint_path its (codes "/events/" ++ id)) false refl
     refl h.of_path)

@@ -7,7 +7,8 @@ use Rattle.relay_types.specs.Values.{Text, Seq}
 use Rattle.desk.specs.declared.ticket.Ticket.{Ticket}
 use Rattle.delivery.specs.Logs.{ChangeValue, PublishedValue}
 
--- the number of the event's record, its endpoint, its id and its body, and a prefix of the run's log
+-- the number of the event's record, its endpoint, its id and its body, and a prefix of the run's
+-- log
 pub record AckValue : Type 0 where
   pub seq : Seq
   pub name : Text
@@ -46,12 +47,14 @@ publish_ack_of event body prefix = record { event = event; body = body; prefix =
 abbrev pub confirmed_of : ChangeValue → (prefix : List Record) → ChangeValue
 confirmed_of change prefix = record { seq = change.seq; entry = change.entry; prefix = prefix }
 
--- The record of this number is an event of this endpoint, with this id and this body. A later record may purge it.
+-- The record of this number is an event of this endpoint, with this id and this body. A later
+-- record may purge it.
 abbrev pub HasEvent : List Record → (seq : Seq) → (name id body : Text) → Type 0
 HasEvent records seq name id body =
     (a : Accepted) × (accept_at records seq ≡ Some a) × (a.endpoint ≡ name) × (a.id ≡ id) × (a.body ≡ body)
 
--- Of each history that the log of the run goes on from: the event is in that history and the log, at its number.
+-- The event is at its number in the history before the run and the log, for each history that the
+-- log may continue.
 abbrev pub IsLogged : (is_base : List Record → Type 0) → AckValue → (log : List Record) → Type 0
 IsLogged is_base ack log = (base : List Record) → is_base base → HasEvent (base ++ log) ack.seq ack.name ack.id ack.body
 

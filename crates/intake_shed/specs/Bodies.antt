@@ -1,4 +1,4 @@
--- What the bodies of requests say. Which value a body has is the word of `serde_json`.
+-- What the bodies of requests say. The crate `serde_json` defines which value a body has.
 use Rattle.std.specs.Prelude.{◌≡◌, Bool, false, List, [], ◌∷◌, ◌&&◌, Some, IsTrue, codes}
 use Rattle.std.specs.Str.{IsUtf8}
 use Rattle.serde_json.specs.Data.{Num, unsigned, negative, float}
@@ -22,7 +22,7 @@ abbrev pub strings : List Text → Items
 strings [] = no_items
 strings (text ∷ texts) = item (string text) (strings texts)
 
--- The members of a value, which has them as an object has; it may have others.
+-- The members of a value that is an object. It may have others.
 pub record HasPutMembers (value : Data) (url : Text) (max : Num) (secrets : List Text) : Type 0 where
   pub of_url : get (codes "url") value ≡ Some (string url)
   pub of_max : get (codes "max") value ≡ Some (number max)
@@ -37,7 +37,8 @@ HasFlag value name flag = get name value ≡ Some (boolean flag)
 abbrev pub HasBefore : (value : Data) (before : Num) → Type 0
 HasBefore value before = get (codes "before") value ≡ Some (number before)
 
--- whether the number is a whole one from 1 to 1000. One that is written with a point or an exponent is a float.
+-- whether the number is a whole one from 1 to 1000. One that is written with a point or an exponent
+-- is a float.
 abbrev pub is_max : Num → Bool
 is_max (unsigned n) = is_max_limit n
 is_max (negative z) = false
@@ -54,13 +55,15 @@ abbrev pub AreNoSecrets : List Text → Type 0
 AreNoSecrets texts = (secrets : List Text) → ¬ AreSecretTexts texts secrets
 
 -- What the value says: the new endpoint, the secrets, the flag, or the moment of this command.
-abbrev pub Says : (value : Data) → Command → Type 0
-Says value (PutEndpoint name target max secrets) = (texts : List Text) × HasPutMembers value target (unsigned max) texts
+abbrev pub SaysCommand : (value : Data) → Command → Type 0
+SaysCommand value (PutEndpoint name target max secrets) = (texts : List Text)
+    × HasPutMembers value target (unsigned max) texts
     × IsTrue (is_target target && is_max_limit max) × AreSecretTexts texts secrets
-Says value (SetSecrets name secrets) = (texts : List Text) × HasSecrets value texts × AreSecretTexts texts secrets
-Says value (SetEnabled name flag) = HasFlag value (codes "enabled") flag
-Says value (SetSubscribed topic name flag) = HasFlag value (codes "subscribed") flag
-Says value (Purge before) = HasBefore value (unsigned before) × IsTrue (is_moment before)
+SaysCommand value (SetSecrets name secrets) = (texts : List Text) × HasSecrets value texts
+    × AreSecretTexts texts secrets
+SaysCommand value (SetEnabled name flag) = HasFlag value (codes "enabled") flag
+SaysCommand value (SetSubscribed topic name flag) = HasFlag value (codes "subscribed") flag
+SaysCommand value (Purge before) = HasBefore value (unsigned before) × IsTrue (is_moment before)
 
 -- the first of these members that is bad: the url, the max, the secrets
 abbrev pub IsBadMember : (url : Text) (max : Num) (secrets : List Text) → RequestError → Type 0
@@ -70,7 +73,7 @@ IsBadMember url max secrets BadSecret = IsTrue (is_target url && is_max max) × 
 IsBadMember url max secrets OutOfMemory = Unit {0}
 IsBadMember url max secrets why = ⊥
 
--- What a value is refused for: it hasn't the members, each of its kind, or one of them is bad.
+-- Why a value is refused: it doesn't have the members, each of its kind, or one of them is bad.
 abbrev pub IsBadPut : (value : Data) → RequestError → Type 0
 IsBadPut value BadBody = (url : Text) (max : Num) (secrets : List Text) → ¬ HasPutMembers value url max secrets
 IsBadPut value OutOfMemory = Unit {0}
@@ -94,8 +97,8 @@ IsBadBefore value BadMoment = (before : Num) × HasBefore value before × (is_be
 IsBadBefore value OutOfMemory = Unit {0}
 IsBadBefore value why = ⊥
 
--- what a body is refused for, whose value is refused so; a body that has no value is BadBody
-abbrev pub OfBody : (IsBad : Data → RequestError → Type 0) → (body : Text) → RequestError → Type 0
-OfBody IsBad body BadBody = (value : Data) → IsJson body value → IsBad value BadBody
-OfBody IsBad body OutOfMemory = Unit {0}
-OfBody IsBad body why = (value : Data) × IsJson body value × IsBad value why
+-- why a body is refused: for its value, or as BadBody if it has no value
+abbrev pub IsBadByValue : (IsBad : Data → RequestError → Type 0) → (body : Text) → RequestError → Type 0
+IsBadByValue IsBad body BadBody = (value : Data) → IsJson body value → IsBad value BadBody
+IsBadByValue IsBad body OutOfMemory = Unit {0}
+IsBadByValue IsBad body why = (value : Data) × IsJson body value × IsBad value why

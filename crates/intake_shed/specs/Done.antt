@@ -1,4 +1,5 @@
--- The replies to what is done: a status, and a text that is compact JSON with its members in the order of their names.
+-- The replies to what is done: a status, and a text that is compact JSON with its members in the
+-- order of their names.
 use Rattle.std.specs.Prelude.{◌≡◌, ◌⊎◌, ℕ, List, [], ◌∷◌, false, codes, map}
 use Rattle.serde_json.specs.Data.{Data, Items, array, item, no_items, string}
 use Rattle.serde_json.specs.Written.{compact_text}
@@ -13,7 +14,7 @@ use Rattle.intake_shed.specs.declared.reply.Reply.{Reply}
 abbrev pub done : (status : ℕ) (text : Text) → Reply
 done status text = record { status = status; retry = false; body = text }
 
--- it is this one, or there is no memory for its text
+-- it is this one, or an allocation for its text failed
 abbrev pub IsDone : (status : ℕ) (text : Text) → Reply → Type 0
 IsDone status text reply = (reply ≡ done status text) ⊎ (reply ≡ out_of_memory)
 
@@ -22,14 +23,14 @@ abbrev pub change_status : Command → ℕ
 change_status (PutEndpoint name target max secrets) = 201
 change_status command = 200
 
--- a change is told by its record's number
+-- the reply to a change has its record's number
 abbrev pub change_body : Seq → Data
 change_body seq = object_of ((codes "seq", natural seq) ∷ [])
 
 abbrev pub change_text : Seq → Text
 change_text seq = compact_text (change_body seq)
 
--- an event is told by its id and its record's number
+-- the reply to an event has its id and its record's number
 abbrev pub accepted_body : (id : Text) → Seq → Data
 accepted_body id seq = object_of ((codes "id", string id) ∷ (codes "seq", natural seq) ∷ [])
 

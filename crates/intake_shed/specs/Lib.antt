@@ -2,7 +2,7 @@ pub mod Acks
 pub mod Answers
 pub mod Bodies
 pub mod Done
-pub mod Lines
+pub mod RouteTable
 pub mod Members
 pub mod Pages
 pub mod Replies

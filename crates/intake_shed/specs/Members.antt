@@ -9,17 +9,17 @@ use Rattle.desk.specs.declared.command.Command.TheVariants.{PutEndpoint}
 use Rattle.intake_shed.specs.declared.fault.RequestError.{RequestError}
 use Rattle.intake_shed.specs.declared.fault.RequestError.TheVariants.{BadBody, OutOfMemory}
 
-abbrev pub HasText : (value : Data) (name text : Text) → Type 0
-HasText value name text = get name value ≡ Some (string text)
+abbrev pub HasTextMember : (value : Data) (name text : Text) → Type 0
+HasTextMember value name text = get name value ≡ Some (string text)
 
-abbrev pub HasNumber : (value : Data) (name : Text) → Num → Type 0
-HasNumber value name n = get name value ≡ Some (number n)
+abbrev pub HasNumberMember : (value : Data) (name : Text) → Num → Type 0
+HasNumberMember value name n = get name value ≡ Some (number n)
 
--- what is refused is refused for the body, or for memory
+-- only a bad body, or a failed allocation, is a fault here
 abbrev pub IsBodyFault : {A : Type 0} → Result A RequestError → Type 0
 IsBodyFault result = IfErr result (λ fault. (fault ≡ BadBody) ⊎ (fault ≡ OutOfMemory))
 
--- a new endpoint of these members
+-- the command of a new endpoint with these members
 abbrev pub IsPutOf : (name url : Text) (max : Num) (secrets : List Text) → Command → Type 0
 IsPutOf name url max secrets (PutEndpoint its target limit given) =
     (its ≡ name) × (target ≡ url) × (max ≡ unsigned limit)

@@ -23,11 +23,12 @@ asks_for_page asked.Totals = true
 asks_for_page (asked.Endpoint name) = true
 asks_for_page (asked.Event name id) = true
 
--- the page is given, or there is no memory for it
+-- the page is given, or an allocation for it failed
 abbrev pub GivesPage : (text : Text) → Reply → Type 0
 GivesPage text reply = IsDone 200 text reply
 
--- of an endpoint that isn't settled there is no page, nor of its events; nor of an event that isn't settled
+-- there is no page of an endpoint that isn't settled or of its events, and none of an event that
+-- isn't settled
 abbrev pub GivesEndpoint : Option EndpointShown → Reply → Type 0
 GivesEndpoint None reply = reply ≡ refused 404 (codes "UnknownEndpoint")
 GivesEndpoint (Some endpoint) reply = GivesPage (endpoint_text endpoint) reply
@@ -37,18 +38,19 @@ GivesEvent None event reply = reply ≡ refused 404 (codes "UnknownEndpoint")
 GivesEvent (Some endpoint) None reply = reply ≡ refused 404 (codes "UnknownEvent")
 GivesEvent (Some endpoint) (Some event) reply = GivesPage (event_text event) reply
 
--- the reply to what asks for a page, of these records; what asks for none has no reply
-abbrev pub RepliesTo : (records : List Record) → Asked → Reply → Type 0
-RepliesTo records asked.Totals reply = GivesPage (totals_text (totals records)) reply
-RepliesTo records (asked.Endpoint name) reply = GivesEndpoint (endpoint_page records name) reply
-RepliesTo records (asked.Event name id) reply =
+-- the reply with the page that is asked for, of these records; a change has no such reply
+abbrev pub IsPageReply : (records : List Record) → Asked → Reply → Type 0
+IsPageReply records asked.Totals reply = GivesPage (totals_text (totals records)) reply
+IsPageReply records (asked.Endpoint name) reply = GivesEndpoint (endpoint_page records name) reply
+IsPageReply records (asked.Event name id) reply =
     GivesEvent (endpoint_page records name) (event_page records name id) reply
-RepliesTo records what reply = ⊥
+IsPageReply records what reply = ⊥
 
--- The same by what a desk keeps, whether or not it stands for a world.
-abbrev pub RepliesBy : DeskValue → Asked → Reply → Type 0
-RepliesBy desk asked.Totals reply = GivesPage (totals_text (kept.totals desk)) reply
-RepliesBy desk (asked.Endpoint name) reply = GivesEndpoint (kept.endpoint_page desk name) reply
-RepliesBy desk (asked.Event name id) reply = GivesEvent (kept.endpoint_page desk name) (kept.event_page desk name id)
+-- The same by what a desk keeps, whether or not it represents a world.
+abbrev pub IsDeskPageReply : DeskValue → Asked → Reply → Type 0
+IsDeskPageReply desk asked.Totals reply = GivesPage (totals_text (kept.totals desk)) reply
+IsDeskPageReply desk (asked.Endpoint name) reply = GivesEndpoint (kept.endpoint_page desk name) reply
+IsDeskPageReply desk (asked.Event name id) reply = GivesEvent (kept.endpoint_page desk name)
+    (kept.event_page desk name id)
     reply
-RepliesBy desk what reply = ⊥
+IsDeskPageReply desk what reply = ⊥

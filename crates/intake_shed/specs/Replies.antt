@@ -1,4 +1,5 @@
--- The replies of refusals: a status, whether the request may be made again in a second, and a body with the name.
+-- The replies of refusals: a status, whether the request may be made again in a second, and a body
+-- with the name.
 use Rattle.std.specs.Prelude.{ℕ, ◌++◌, true, false, codes}
 use Rattle.relay_types.specs.Values.{Text}
 use Rattle.desk.specs.declared.refusal.Fault.{Fault}
@@ -12,14 +13,14 @@ use Rattle.intake_shed.specs.declared.reply.Reply.{Reply}
 abbrev pub refusal_text : (name : Text) → Text
 refusal_text name = codes "{\"error\":\"" ++ (name ++ codes "\"}")
 
--- a refusal that stays one, and one that a second may change
+-- a refusal that is final, and one that may be different a second later
 abbrev pub refused : (status : ℕ) (name : Text) → Reply
 refused status name = record { status = status; retry = false; body = refusal_text name }
 
 abbrev pub refused_now : (name : Text) → Reply
 refused_now name = record { status = 503; retry = true; body = refusal_text name }
 
--- the reply where memory is refused
+-- the reply if an allocation failed
 abbrev pub out_of_memory : Reply
 out_of_memory = refused_now (codes "OutOfMemory")
 

@@ -58,8 +58,8 @@ impl Acknowledged {
     }
 }
 
-/// Shows that an event is settled, and that it is in the log of the run. `Ack::of` alone makes it, and
-/// `PublishAck::into_latest` of an event that is settled at all subscribers of its topic.
+/// Shows that an event is settled, and that it is in the log of the run. `Ack::of` alone makes it,
+/// and `PublishAck::into_latest` of an event that is settled at all subscribers of its topic.
 #[derive(Drop)]
 pub struct Ack<I: LogId> {
     ticket: Ticket,

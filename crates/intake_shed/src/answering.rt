@@ -3,9 +3,8 @@ ghost use Rattle.std.specs.Prelude.{◌≡◌, ◌≤◌, ◌⊎◌, Some, IfOk,
 ghost use Rattle.intake_shed.specs.Pages.{asks_for_page};
 ghost use Rattle.intake_shed.specs.Replies.{ask_reply};
 ghost use Rattle.intake_shed.specs.Requests.{AsksFor, IsRefusal, IsRefusedFor};
-ghost use Rattle.intake_shed.specs.Answers.{Answers, AnswersAsk, FailsBy, GivesPageAt, IsPublishTold, IsTold};
-ghost use Rattle.intake_shed.specs.Answers.{OrLacksMemory};
-ghost use Rattle.intake_shed.specs.Answers.{TakesChange, may_fail};
+ghost use Rattle.intake_shed.specs.Answers.{Answers, AnswersAsk, FailsBy, GivesPageAt, IsPublishReply, IsEventReply};
+ghost use Rattle.intake_shed.specs.Answers.{OrLacksMemory, ConfirmsChange, may_fail};
 ghost use Rattle.intake_shed.specs.declared.fault.RequestError.{RequestError};
 
 use crate::ack::Ack;
@@ -26,9 +25,9 @@ use std::alloc::Global;
 use std::sync::Wait;
 use std::sync::ledger::Ledger;
 
-/// Answers a request. An event or a change is answered once it is settled, or won't be; a page is
-/// one of what is settled then. An event that isn't given an id gets the fresh one. Where memory is
-/// refused for the reply, what was done stays done.
+/// Answers a request. An event or a change is answered once it is settled, or won't be. A page
+/// shows what is settled then. An event without an id gets the fresh one. If an allocation for the
+/// reply fails, what was done stays done.
 pub fn answer<L: Ledger, I: LogId, R: Wait>(
     rt: &R,
     alloc: Global,
@@ -94,7 +93,7 @@ fn answer_change<L: Ledger, I: LogId, R: Wait>(
     command: Command,
     pass: &mut Pass,
 ) -> Answered<I>
-    ensures answers { TakesChange command pass.new result.reply result.confirmed
+    ensures answers { ConfirmsChange command pass.new result.reply result.confirmed
         ⊎ FailsBy (may_fail command) result.reply }
     ensures pass { pass.old ≤ pass.new }
 {
@@ -117,7 +116,7 @@ fn answer_change<L: Ledger, I: LogId, R: Wait>(
 
 // The answer to an event that was waited for.
 fn answer_event<I: LogId>(alloc: Global, waited: Result<Ack<I>, SubmitError>) -> Answered<I>
-    ensures told { IsTold waited result.reply }
+    ensures replied { IsEventReply waited result.reply }
     ensures given { IfOk waited (λ ack. result.ack ≡ Some ack) }
 {
     match waited {
@@ -141,7 +140,7 @@ fn answer_publish<I: LogId>(
     alloc: Global,
     waited: Result<PublishAck<I>, SubmitError>,
 ) -> Answered<I>
-    ensures told { IsPublishTold waited result.reply }
+    ensures replied { IsPublishReply waited result.reply }
     ensures given { IfOk waited (λ ack. result.published ≡ Some ack) }
 {
     match waited {
@@ -160,7 +159,7 @@ fn answer_publish<I: LogId>(
     }
 }
 
-// The page, of a desk at which the pass looks first.
+// The page of the desk, after the pass has looked at it.
 fn answer_page<L: Ledger, I: LogId, R: Wait>(
     rt: &R,
     alloc: Global,

@@ -5,11 +5,11 @@ ghost use Rattle.serde_json.specs.View.{view, number_view};
 ghost use Rattle.relay_types.specs.Values.{is_target, is_max_limit, is_moment};
 ghost use Rattle.text_lines.specs.Parts.{texts};
 ghost use Rattle.text_lines.specs.Words.{AreSecretTexts};
-ghost use Rattle.intake_shed.specs.Lines.{Put, SetSecrets, SetEnabled, SetSubscribed, Retention};
-ghost use Rattle.intake_shed.specs.Bodies.{IsJson, Says, AreNoSecrets, is_before, is_max};
-ghost use Rattle.intake_shed.specs.Bodies.{IsBadMember, IsBadPut, IsBadSecrets, IsBadFlag, IsBadBefore, OfBody};
+ghost use Rattle.intake_shed.specs.RouteTable.{Put, SetSecrets, SetEnabled, SetSubscribed, Retention};
+ghost use Rattle.intake_shed.specs.Bodies.{IsJson, SaysCommand, AreNoSecrets, is_before, is_max};
+ghost use Rattle.intake_shed.specs.Bodies.{IsBadMember, IsBadPut, IsBadSecrets, IsBadFlag, IsBadBefore, IsBadByValue};
 ghost use Rattle.intake_shed.specs.Members.{IsPutOf};
-ghost use Rattle.intake_shed.specs.Requests.{line_changed};
+ghost use Rattle.intake_shed.specs.Requests.{route_of_command};
 
 use crate::fault::RequestError;
 use crate::members::{flag_of, number_of, read_json, secret_texts, text_of};
@@ -21,9 +21,9 @@ use text_lines::secrets_of;
 
 /// A new endpoint.
 pub(crate) fn read_put(alloc: Global, name: Name, body: &[u8]) -> Result<Command, RequestError>
-    ensures line { IfOk result (λ command. line_changed command ≡ Put name) }
-    ensures says { IfOk result (λ command. (value : Data) × IsJson body.now value × Says value command) }
-    ensures refused { IfErr result (λ why. OfBody IsBadPut body.now why) }
+    ensures route { IfOk result (λ command. route_of_command command ≡ Put name) }
+    ensures says { IfOk result (λ command. (value : Data) × IsJson body.now value × SaysCommand value command) }
+    ensures refused { IfErr result (λ why. IsBadByValue IsBadPut body.now why) }
 {
     let value = read_json(alloc, body)?;
     put_of(alloc, name, &value)
@@ -31,9 +31,9 @@ pub(crate) fn read_put(alloc: Global, name: Name, body: &[u8]) -> Result<Command
 
 /// Other secrets of an endpoint.
 pub(crate) fn read_secrets(alloc: Global, name: Name, body: &[u8]) -> Result<Command, RequestError>
-    ensures line { IfOk result (λ command. line_changed command ≡ SetSecrets name) }
-    ensures says { IfOk result (λ command. (value : Data) × IsJson body.now value × Says value command) }
-    ensures refused { IfErr result (λ why. OfBody IsBadSecrets body.now why) }
+    ensures route { IfOk result (λ command. route_of_command command ≡ SetSecrets name) }
+    ensures says { IfOk result (λ command. (value : Data) × IsJson body.now value × SaysCommand value command) }
+    ensures refused { IfErr result (λ why. IsBadByValue IsBadSecrets body.now why) }
 {
     let value = read_json(alloc, body)?;
     secrets_of_value(alloc, name, &value)
@@ -41,9 +41,9 @@ pub(crate) fn read_secrets(alloc: Global, name: Name, body: &[u8]) -> Result<Com
 
 /// Whether an endpoint is posted to.
 pub(crate) fn read_flag(alloc: Global, name: Name, body: &[u8]) -> Result<Command, RequestError>
-    ensures line { IfOk result (λ command. line_changed command ≡ SetEnabled name) }
-    ensures says { IfOk result (λ command. (value : Data) × IsJson body.now value × Says value command) }
-    ensures refused { IfErr result (λ why. OfBody (IsBadFlag (codes "enabled")) body.now why) }
+    ensures route { IfOk result (λ command. route_of_command command ≡ SetEnabled name) }
+    ensures says { IfOk result (λ command. (value : Data) × IsJson body.now value × SaysCommand value command) }
+    ensures refused { IfErr result (λ why. IsBadByValue (IsBadFlag (codes "enabled")) body.now why) }
 {
     let value = read_json(alloc, body)?;
     let flag = flag_of(&value, "enabled")?;
@@ -57,9 +57,9 @@ pub(crate) fn read_subscribed(
     name: Name,
     body: &[u8],
 ) -> Result<Command, RequestError>
-    ensures line { IfOk result (λ command. line_changed command ≡ SetSubscribed name topic) }
-    ensures says { IfOk result (λ command. (value : Data) × IsJson body.now value × Says value command) }
-    ensures refused { IfErr result (λ why. OfBody (IsBadFlag (codes "subscribed")) body.now why) }
+    ensures route { IfOk result (λ command. route_of_command command ≡ SetSubscribed name topic) }
+    ensures says { IfOk result (λ command. (value : Data) × IsJson body.now value × SaysCommand value command) }
+    ensures refused { IfErr result (λ why. IsBadByValue (IsBadFlag (codes "subscribed")) body.now why) }
 {
     let value = read_json(alloc, body)?;
     let flag = flag_of(&value, "subscribed")?;
@@ -68,17 +68,17 @@ pub(crate) fn read_subscribed(
 
 /// Events that are done with, the last attempt at each before the moment of the body, are removed.
 pub(crate) fn read_purge(alloc: Global, body: &[u8]) -> Result<Command, RequestError>
-    ensures line { IfOk result (λ command. line_changed command ≡ Retention) }
-    ensures says { IfOk result (λ command. (value : Data) × IsJson body.now value × Says value command) }
-    ensures refused { IfErr result (λ why. OfBody IsBadBefore body.now why) }
+    ensures route { IfOk result (λ command. route_of_command command ≡ Retention) }
+    ensures says { IfOk result (λ command. (value : Data) × IsJson body.now value × SaysCommand value command) }
+    ensures refused { IfErr result (λ why. IsBadByValue IsBadBefore body.now why) }
 {
     let value = read_json(alloc, body)?;
     purge_of(&value)
 }
 
 fn put_of(alloc: Global, name: Name, value: &Value) -> Result<Command, RequestError>
-    ensures line { IfOk result (λ command. line_changed command ≡ Put name) }
-    ensures says { IfOk result (λ command. Says (view value.now) command) }
+    ensures route { IfOk result (λ command. route_of_command command ≡ Put name) }
+    ensures says { IfOk result (λ command. SaysCommand (view value.now) command) }
     ensures refused { IfErr result (λ why. IsBadPut (view value.now) why) }
 {
     let url = text_of(value, "url")?;
@@ -106,8 +106,8 @@ fn put_of_members(
 }
 
 fn secrets_of_value(alloc: Global, name: Name, value: &Value) -> Result<Command, RequestError>
-    ensures line { IfOk result (λ command. line_changed command ≡ SetSecrets name) }
-    ensures says { IfOk result (λ command. Says (view value.now) command) }
+    ensures route { IfOk result (λ command. route_of_command command ≡ SetSecrets name) }
+    ensures says { IfOk result (λ command. SaysCommand (view value.now) command) }
     ensures refused { IfErr result (λ why. IsBadSecrets (view value.now) why) }
 {
     let texts = secret_texts(alloc, value)?;
@@ -116,8 +116,8 @@ fn secrets_of_value(alloc: Global, name: Name, value: &Value) -> Result<Command,
 }
 
 fn purge_of(value: &Value) -> Result<Command, RequestError>
-    ensures line { IfOk result (λ command. line_changed command ≡ Retention) }
-    ensures says { IfOk result (λ command. Says (view value.now) command) }
+    ensures route { IfOk result (λ command. route_of_command command ≡ Retention) }
+    ensures says { IfOk result (λ command. SaysCommand (view value.now) command) }
     ensures refused { IfErr result (λ why. IsBadBefore (view value.now) why) }
 {
     let before = number_of(value, "before")?;

@@ -9,7 +9,8 @@ use run_log::{Log, LogId, Prefix};
 use std::marker::Model;
 use std::sync::ledger::Ledger;
 
-/// Shows that a change is settled, and that its record is in the log of the run. `Confirmed::of` alone makes it.
+/// Shows that a change is settled, and that its record is in the log of the run. `Confirmed::of`
+/// alone makes it.
 #[derive(Drop)]
 pub struct Confirmed<I: LogId> {
     change: StagedChange<I>,

@@ -21,8 +21,8 @@ pub fn change_status(command: &Command) -> u16
     }
 }
 
-/// The reply to a change that is done, of this status: its record's number. Without memory for the text it is that of
-/// OutOfMemory, and the change stays done.
+/// The reply to a change that is done, with this status: its record's number. If an allocation for
+/// the text fails, it is that of OutOfMemory, and the change stays done.
 pub fn change_reply(alloc: Global, status: u16, seq: u64) -> Reply
     ensures { IsDone status (change_text seq) result }
 {
@@ -41,8 +41,8 @@ fn change_body(alloc: Global, seq: u64) -> Result<Value, AllocError>
     json!(in alloc; { "seq": seq })
 }
 
-/// The reply to an event that is settled: its id, and its record's number. Without memory for the text it is that of
-/// OutOfMemory, and the event stays settled.
+/// The reply to an event that is settled: its id, and its record's number. If an allocation for the
+/// text fails, it is that of OutOfMemory, and the event stays settled.
 pub fn accepted_reply(alloc: Global, id: &MsgId, seq: u64) -> Reply
     ensures { IsDone 202 (accepted_text id.now seq) result }
 {
@@ -64,8 +64,9 @@ fn accepted_body(alloc: Global, id: &MsgId, seq: u64) -> Result<Value, AllocErro
     })
 }
 
-/// The reply to an event that is settled at each subscriber of its topic: its id, and the numbers of its records.
-/// Without memory for the text it is that of OutOfMemory, and the event stays settled.
+/// The reply to an event that is settled at each subscriber of its topic: its id, and the numbers
+/// of its records. If an allocation for the text fails, it is that of OutOfMemory, and the event
+/// stays settled.
 pub fn published_reply(alloc: Global, id: &MsgId, tickets: &[Ticket]) -> Reply
     ensures { IsDone 202 (published_text id.now (seqs_of tickets.now)) result }
 {

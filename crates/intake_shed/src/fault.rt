@@ -17,7 +17,7 @@ pub enum RequestError {
     TooLong,
     /// More than one id of an event, or one that is no id.
     BadId,
-    /// No JSON object with the members of the line, each of its kind.
+    /// No JSON object with the members of the route, each of its kind.
     BadBody,
     /// The url is no target.
     BadUrl,
@@ -27,7 +27,7 @@ pub enum RequestError {
     BadSecret,
     /// The moment is no whole number from 0 to 2^40.
     BadMoment,
-    /// Memory was refused.
+    /// An allocation failed.
     OutOfMemory,
 }
 

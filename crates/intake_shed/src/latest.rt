@@ -5,7 +5,8 @@ use crate::ack::Ack;
 use run_log::LogId;
 use std::marker::Model;
 
-/// The acknowledgement with the greatest number of those that were kept, if there is one. Contracts see it as that.
+/// The acknowledgement with the greatest number of those that were kept, if there is one. Contracts
+/// see it as that.
 #[derive(Drop)]
 pub struct LatestAck<I: LogId> {
     latest: Option<Ack<I>>,

@@ -1,5 +1,5 @@
-//! What a request over HTTP asks for, what it is refused with, and the replies, without a socket;
-//! and the answer to it over a desk that threads share. The calls that wait are `submit_and_wait`,
+//! What a request over HTTP asks for, why it is refused, and the replies, without a socket; and the
+//! answer to it at a desk that threads share. The calls that wait are `submit_and_wait`,
 //! `publish_and_wait`, `command_and_wait` and `answer`.
 #![tactic(auto)]
 

@@ -4,7 +4,7 @@ ghost use Rattle.text_lines.specs.Parts.{texts};
 ghost use Rattle.serde_json.specs.Data.{Data, Num};
 ghost use Rattle.serde_json.specs.View.{view, number_view, items_view};
 ghost use Rattle.intake_shed.specs.Bodies.{IsJson, HasSecrets, HasFlag, strings};
-ghost use Rattle.intake_shed.specs.Members.{HasText, HasNumber, IsBodyFault};
+ghost use Rattle.intake_shed.specs.Members.{HasTextMember, HasNumberMember, IsBodyFault};
 
 use crate::fault::RequestError;
 use serde_json::{Number, Value};
@@ -25,8 +25,8 @@ pub(crate) fn read_json(alloc: Global, body: &[u8]) -> Result<Value, RequestErro
 
 /// The text that is the member of this name.
 pub(crate) fn text_of<'a>(value: &'a Value, name: &str) -> Result<&'a str, RequestError>
-    ensures value { IfOk result (λ text. HasText (view value.now) name.now text.now) }
-    ensures bad { result ≡ Err RequestError.BadBody → (text : List ℕ) → ¬ HasText (view value.now) name.now text }
+    ensures value { IfOk result (λ text. HasTextMember (view value.now) name.now text.now) }
+    ensures bad { result ≡ Err RequestError.BadBody → (text : List ℕ) → ¬ HasTextMember (view value.now) name.now text }
     ensures faults { IsBodyFault result }
 {
     value
@@ -37,8 +37,8 @@ pub(crate) fn text_of<'a>(value: &'a Value, name: &str) -> Result<&'a str, Reque
 
 /// The number that is the member of this name.
 pub(crate) fn number_of<'a>(value: &'a Value, name: &str) -> Result<&'a Number, RequestError>
-    ensures value { IfOk result (λ n. HasNumber (view value.now) name.now (number_view n.now)) }
-    ensures bad { result ≡ Err RequestError.BadBody → (n : Num) → ¬ HasNumber (view value.now) name.now n }
+    ensures value { IfOk result (λ n. HasNumberMember (view value.now) name.now (number_view n.now)) }
+    ensures bad { result ≡ Err RequestError.BadBody → (n : Num) → ¬ HasNumberMember (view value.now) name.now n }
     ensures faults { IsBodyFault result }
 {
     value

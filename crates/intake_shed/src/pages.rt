@@ -4,7 +4,7 @@ ghost use Rattle.desk.specs.World.{settled_records};
 ghost use Rattle.desk.specs.Desks.{OverWorlds};
 ghost use Rattle.desk.specs.OwnBooks as kept;
 ghost use Rattle.desk.specs.Queries.{endpoint_page, event_page};
-ghost use Rattle.intake_shed.specs.Pages.{asks_for_page, RepliesBy, RepliesTo, GivesEndpoint, GivesEvent};
+ghost use Rattle.intake_shed.specs.Pages.{asks_for_page, IsDeskPageReply, IsPageReply, GivesEndpoint, GivesEvent};
 
 use crate::ask::Asked;
 use crate::reply::Reply;
@@ -17,8 +17,8 @@ use std::sync::ledger::Ledger;
 /// The page that is asked for, of what is settled. It changes nothing.
 pub fn page_reply<L: Ledger>(alloc: Global, desk: &Desk<L>, asked: &Asked) -> Reply
     requires { IsTrue (asks_for_page asked.now) }
-    ensures value { RepliesBy desk.now asked.now result }
-    ensures stands { OverWorlds desk.now (λ w. RepliesTo (settled_records w) asked.now result) }
+    ensures value { IsDeskPageReply desk.now asked.now result }
+    ensures stands { OverWorlds desk.now (λ w. IsPageReply (settled_records w) asked.now result) }
 {
     match asked {
         Asked::Totals => Reply::done(200, totals_text(alloc, &desk.totals())),

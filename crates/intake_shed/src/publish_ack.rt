@@ -14,8 +14,8 @@ use run_log::{Log, LogId, Prefix};
 use std::marker::Model;
 use std::sync::ledger::Ledger;
 
-/// Shows that an event is settled at each subscriber of its topic, and that it is in the log of the run at each of its
-/// numbers. `PublishAck::of` alone makes it.
+/// Shows that an event is settled at each subscriber of its topic, and that it is in the log of the
+/// run at each of its numbers. `PublishAck::of` alone makes it.
 #[derive(Drop)]
 pub struct PublishAck<I: LogId> {
     event: Published<I>,

@@ -3,10 +3,10 @@ ghost use Rattle.std.specs.Prelude.{◌≡◌, ◌≤◌, false, length, IsTrue,
 ghost use Rattle.std.specs.Arc.{arc_value};
 ghost use Rattle.relay_types.specs.Values.{is_name};
 ghost use Rattle.text_lines.specs.Parts.{texts};
-ghost use Rattle.intake_shed.specs.Requests.{AsksFor, IsRefusal, IsRefusedFor, IsNotReadFor, Gives, Tells};
-ghost use Rattle.intake_shed.specs.Requests.{IsBadOn, IsOfBody, line_asked};
-ghost use Rattle.intake_shed.specs.Requests.{has_parts, has_room, bytes_of, has_one_id, id_of};
-ghost use Rattle.intake_shed.specs.Routes.{line_of};
+ghost use Rattle.intake_shed.specs.Requests.{AsksFor, IsRefusal, IsRefusedFor, IsNotReadFor, IsReadAs, IsRefusedWith};
+ghost use Rattle.intake_shed.specs.Requests.{FailsOnRoute, AgreesWithBody, route_of_asked};
+ghost use Rattle.intake_shed.specs.Requests.{has_parts, is_within_limit, bytes_of, has_one_id, id_of};
+ghost use Rattle.intake_shed.specs.Routes.{route_value};
 ghost use Rattle.intake_shed.specs.declared.ask.Asked.{Asked};
 ghost use Rattle.intake_shed.specs.declared.fault.RequestError.{RequestError};
 
@@ -19,13 +19,13 @@ use relay_types::{Body, MAX_BODY_BYTES, MsgId, Name};
 use std::alloc::{AllocError, Global};
 use std::sync::Arc;
 
-/// What a request asks for, or the reply that refuses it: the first check that fails decides, and only memory may be
-/// refused before it. An event that isn't given an id gets the fresh one.
+/// What a request asks for, or the reply that refuses it: the first check that fails decides, and
+/// only an allocation may fail before it. An event without an id gets the fresh one.
 pub fn read_ask(alloc: Global, ask: &Ask<'_>, fresh: MsgId) -> Result<Asked, Reply>
     ensures asked { IfOk result (λ asked. AsksFor ask.now fresh asked) }
-    ensures asks { (asked : Asked) → AsksFor ask.now fresh asked → Gives result asked }
+    ensures asks { (asked : Asked) → AsksFor ask.now fresh asked → IsReadAs result asked }
     ensures refused { IfErr result (λ reply. IsRefusal ask.now reply) }
-    ensures refuses { (why : RequestError) → IsRefusedFor ask.now why → Tells result why }
+    ensures refuses { (why : RequestError) → IsRefusedFor ask.now why → IsRefusedWith result why }
 {
     match read(alloc, ask, fresh) {
         Ok(asked) => Ok(asked),
@@ -43,43 +43,43 @@ fn read(alloc: Global, ask: &Ask<'_>, fresh: MsgId) -> Result<Asked, RequestErro
     }
 }
 
-// What a request on this line asks for.
+// What a request on this route asks for.
 fn read_on(
     alloc: Global,
     route: Route<'_>,
     ask: &Ask<'_>,
     fresh: MsgId,
 ) -> Result<Asked, RequestError>
-    ensures line { IfOk result (λ asked. line_asked asked ≡ line_of route.entry) }
-    ensures passes { OnOk result (IsTrue (has_parts (line_of route.entry) ask.now)) }
-    ensures says { IfOk result (λ asked. IsOfBody ask.now fresh asked) }
-    ensures refused { IfErr result (λ why. IsBadOn (line_of route.entry) ask.now why) }
+    ensures route { IfOk result (λ asked. route_of_asked asked ≡ route_value route.entry) }
+    ensures passes { OnOk result (IsTrue (has_parts (route_value route.entry) ask.now)) }
+    ensures says { IfOk result (λ asked. AgreesWithBody ask.now fresh asked) }
+    ensures refused { IfErr result (λ why. FailsOnRoute (route_value route.entry) ask.now why) }
 {
     match route {
         Route::Put(name) => {
             let name = read_name(name)?;
-            let body = read_size(&ask.body)?;
+            let body = body_within_limit(&ask.body)?;
             Ok(Asked::Change(read_put(alloc, name, body)?))
         }
         Route::SetSecrets(name) => {
             let name = read_name(name)?;
-            let body = read_size(&ask.body)?;
+            let body = body_within_limit(&ask.body)?;
             Ok(Asked::Change(read_secrets(alloc, name, body)?))
         }
         Route::SetEnabled(name) => {
             let name = read_name(name)?;
-            let body = read_size(&ask.body)?;
+            let body = body_within_limit(&ask.body)?;
             Ok(Asked::Change(read_flag(alloc, name, body)?))
         }
         Route::SetSubscribed(name, topic) => {
             let name = read_name(name)?;
             let topic = read_name(topic)?;
-            let body = read_size(&ask.body)?;
+            let body = body_within_limit(&ask.body)?;
             Ok(Asked::Change(read_subscribed(alloc, topic, name, body)?))
         }
         Route::Submit(name) => {
             let name = read_name(name)?;
-            let body = read_size(&ask.body)?;
+            let body = body_within_limit(&ask.body)?;
             let id = read_id(ask.ids, fresh)?;
             Ok(Asked::Post {
                 name,
@@ -89,7 +89,7 @@ fn read_on(
         }
         Route::Publish(topic) => {
             let topic = read_name(topic)?;
-            let body = read_size(&ask.body)?;
+            let body = body_within_limit(&ask.body)?;
             let id = read_id(ask.ids, fresh)?;
             Ok(Asked::Publish {
                 topic,
@@ -98,21 +98,21 @@ fn read_on(
             })
         }
         Route::Retention => {
-            let body = read_size(&ask.body)?;
+            let body = body_within_limit(&ask.body)?;
             Ok(Asked::Change(read_purge(alloc, body)?))
         }
         Route::Totals => {
-            read_size(&ask.body)?;
+            body_within_limit(&ask.body)?;
             Ok(Asked::Totals)
         }
         Route::Endpoint(name) => {
             let name = read_name(name)?;
-            read_size(&ask.body)?;
+            body_within_limit(&ask.body)?;
             Ok(Asked::Endpoint(name))
         }
         Route::Event(name, id) => {
             let name = read_name(name)?;
-            read_size(&ask.body)?;
+            body_within_limit(&ask.body)?;
             Ok(Asked::Event(name, MsgId::read(id).map_err(|_| RequestError::BadId)?))
         }
     }
@@ -130,11 +130,11 @@ fn read_name(name: &[u8]) -> Result<Name, RequestError>
     }
 }
 
-// The bytes of a body that has room.
-fn read_size<'a>(body: &AskBody<'a>) -> Result<&'a [u8], RequestError>
+// The bytes of a body that is within the limit.
+fn body_within_limit<'a>(body: &AskBody<'a>) -> Result<&'a [u8], RequestError>
     ensures bytes { IfOk result (λ bytes. bytes.now ≡ bytes_of body.now) }
-    ensures passes { OnOk result (IsTrue (has_room body.now)) }
-    ensures refused { IfErr result (λ why. (why ≡ RequestError.TooLong) × (has_room body.now ≡ false)) }
+    ensures passes { OnOk result (IsTrue (is_within_limit body.now)) }
+    ensures refused { IfErr result (λ why. (why ≡ RequestError.TooLong) × (is_within_limit body.now ≡ false)) }
 {
     match *body {
         AskBody::Whole(bytes) if bytes.len() <= MAX_BODY_BYTES => Ok(bytes),
@@ -158,7 +158,7 @@ fn read_id(ids: &[&[u8]], fresh: MsgId) -> Result<MsgId, RequestError>
     }
 }
 
-// The body of an event, which has room.
+// The body of an event, which is within the limit.
 fn copy_body(alloc: Global, bytes: &[u8]) -> Result<Body, RequestError>
     requires { length bytes.now ≤ MAX_BODY_BYTES }
     ensures value { IfOk result (λ body. body ≡ bytes.now) }

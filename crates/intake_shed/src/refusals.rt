@@ -7,12 +7,13 @@ use crate::reply::Reply;
 use delivery::WentBack;
 use desk::{Fault, Refusal};
 
-/// Why a change or an event that was waited for isn't told as done.
+/// Why a change or an event that was waited for isn't reported as done.
 #[derive(Clone, Copy, PartialEq, Eq, Debug)]
 pub enum SubmitError {
     /// The desk refused it.
     Refused(Refusal),
-    /// It waited when the desk halted: it may be done or not. Or the event was settled, and a purge removed it.
+    /// It waited when the desk halted: it may be done or not. Or the event was settled, and a purge
+    /// removed it.
     Unknown,
     /// The desk has fewer settled records than were seen before.
     WentBack,
@@ -34,7 +35,7 @@ impl From<WentBack> for SubmitError {
     }
 }
 
-/// The reply to what isn't done. It takes no memory.
+/// The reply to what isn't done. It doesn't allocate.
 pub fn refusal_reply(fault: &SubmitError) -> Reply
     ensures { result ≡ refusal_reply fault.now }
 {

@@ -24,7 +24,7 @@ impl Model for ReplyText {
 }
 
 impl ReplyText {
-    /// A text that stands in the program. It takes no memory.
+    /// A text that is part of the program. It doesn't allocate.
     pub fn fixed(text: &'static str) -> ReplyText
         ensures { result ≡ text.now }
     {
@@ -49,8 +49,8 @@ impl ReplyText {
         self.text.as_str()
     }
 
-    /// The text, without a copy: borrowed where it stands in the program, as that of each refusal
-    /// does, or else as it was made.
+    /// The text, without a copy: borrowed if it is part of the program, as each refusal's is, or
+    /// else as it was made.
     pub fn into_cow(self) -> CowStr<'static>
         ensures { cow_str_bytes result ≡ self }
     {
@@ -63,14 +63,15 @@ impl ReplyText {
 pub struct Reply {
     /// The status code (RFC 9110, section 15).
     pub status: u16,
-    /// Whether the header `Retry-After: 1` goes with it: the request may be made again after a second.
+    /// Whether the header `Retry-After: 1` goes with it: the request may be made again after a
+    /// second.
     pub retry: bool,
     /// The body, of the type `application/json`.
     pub body: ReplyText,
 }
 
 impl Reply {
-    // The reply of what was done, with this text if there was memory for it.
+    // The reply of what was done with this text, or out of memory if an allocation for it failed.
     pub(crate) fn done(status: u16, text: Result<String, AllocError>) -> Reply
         ensures { (bytes : List ℕ) → IfOk text (λ made. string_bytes made ≡ bytes) → IsDone status bytes result }
     {
@@ -84,14 +85,14 @@ impl Reply {
         }
     }
 
-    // The reply where memory was refused.
+    // The reply if an allocation failed.
     pub(crate) fn out_of_memory() -> Reply
         ensures { result ≡ out_of_memory }
     {
         Reply::refused_now("{\"error\":\"OutOfMemory\"}")
     }
 
-    // The reply of a refusal that stays one.
+    // The reply of a refusal that is final.
     pub(crate) fn refused(status: u16, text: &'static str) -> Reply
         ensures { result ≡ record { status = status; retry = false; body = text.now } }
     {
@@ -102,7 +103,7 @@ impl Reply {
         }
     }
 
-    // The reply of a refusal that a second may change.
+    // The reply of a refusal that may be different a second later.
     pub(crate) fn refused_now(text: &'static str) -> Reply
         ensures { result ≡ record { status = 503; retry = true; body = text.now } }
     {

@@ -1,13 +1,13 @@
-//! Which line of the table of requests a method and a path stand on.
+//! The route of a method and a path in the table of requests.
 ghost use Rattle.std.specs.Prelude.{◌≡◌, ◌≤◌, ◌==◌, ◌++◌, None, IfSome, IsTrue, codes, length};
 ghost use Rattle.std.specs.List.{before_first, position, position_or_len};
 ghost use Rattle.text_lines.specs.Parts.{has_no};
-ghost use Rattle.intake_shed.specs.Lines.{Line, IsLine, before_query};
-ghost use Rattle.intake_shed.specs.Routes.{line_of, IsBehindName, StartsAt};
+ghost use Rattle.intake_shed.specs.RouteTable.{RouteValue, IsRouteOf, before_query};
+ghost use Rattle.intake_shed.specs.Routes.{route_value, IsAfterName, StartsAt};
 
 use text_lines::is_word;
 
-/// A line of the table of requests, with the parts of the path that stand in it.
+/// A route of the table of requests, with the parts of the path.
 #[derive(Clone, Copy)]
 pub(crate) enum Route<'a> {
     Put(&'a [u8]),
@@ -22,18 +22,18 @@ pub(crate) enum Route<'a> {
     Event(&'a [u8], &'a [u8]),
 }
 
-/// The line of this method and path.
+/// The route of this method and path.
 pub(crate) fn read_route<'a>(method: &[u8], path: &'a [u8]) -> Option<Route<'a>>
-    ensures some { IfSome result (λ route. IsLine (line_of route) method.now (before_query path.now)) }
-    ensures none { result ≡ None → (line : Line) → ¬ IsLine line method.now (before_query path.now) }
+    ensures some { IfSome result (λ route. IsRouteOf (route_value route) method.now (before_query path.now)) }
+    ensures none { result ≡ None → (value : RouteValue) → ¬ IsRouteOf value method.now (before_query path.now) }
 {
     read_path(method, split(path, b'?').0)
 }
 
-// The line of this method and path, which has no query.
+// The route of this method and path, which has no query.
 fn read_path<'a>(method: &[u8], path: &'a [u8]) -> Option<Route<'a>>
-    ensures some { IfSome result (λ route. IsLine (line_of route) method.now path.now) }
-    ensures none { result ≡ None → (line : Line) → ¬ IsLine line method.now path.now }
+    ensures some { IfSome result (λ route. IsRouteOf (route_value route) method.now path.now) }
+    ensures none { result ≡ None → (value : RouteValue) → ¬ IsRouteOf value method.now path.now }
 {
     if is_word(path, "/v1/status") {
         return is_word(method, "GET").then_some(Route::Totals);
@@ -46,25 +46,27 @@ fn read_path<'a>(method: &[u8], path: &'a [u8]) -> Option<Route<'a>>
     }
     let named = path.strip_prefix(b"/v1/endpoints/")?;
     let (name, rest) = split(named, b'/');
-    read_behind_name(method, name, rest)
+    read_after_name(method, name, rest)
 }
 
-// The line of this method, of a topic's path from its name on.
+// The route of this method, and of a topic's path from its name on.
 fn read_topic<'a>(method: &[u8], named: &'a [u8]) -> Option<Route<'a>>
-    ensures some { IfSome result (λ route. IsLine (line_of route) method.now (codes "/v1/topics/" ++ named.now)) }
-    ensures none { result ≡ None → (line : Line) → ¬ IsLine line method.now (codes "/v1/topics/" ++ named.now) }
+    ensures some { IfSome result
+        (λ route. IsRouteOf (route_value route) method.now (codes "/v1/topics/" ++ named.now)) }
+    ensures none { result ≡ None → (value : RouteValue)
+        → ¬ IsRouteOf value method.now (codes "/v1/topics/" ++ named.now) }
 {
     let (topic, rest) = split(named, b'/');
     let is_publish = is_word(method, "POST") && is_word(rest, "/events");
     is_publish.then_some(Route::Publish(topic))
 }
 
-// The line of this method, of the endpoint of this name and what stands after it.
-fn read_behind_name<'a>(method: &[u8], name: &'a [u8], rest: &'a [u8]) -> Option<Route<'a>>
+// The route of this method, of the endpoint of this name, and of what follows the name.
+fn read_after_name<'a>(method: &[u8], name: &'a [u8], rest: &'a [u8]) -> Option<Route<'a>>
     requires name { IsTrue (has_no 47 name.now) }
     requires rest { StartsAt 47 rest.now }
-    ensures some { IfSome result (λ route. IsBehindName (line_of route) method.now name.now rest.now) }
-    ensures none { result ≡ None → (line : Line) → ¬ IsBehindName line method.now name.now rest.now }
+    ensures some { IfSome result (λ route. IsAfterName (route_value route) method.now name.now rest.now) }
+    ensures none { result ≡ None → (value : RouteValue) → ¬ IsAfterName value method.now name.now rest.now }
 {
     if is_word(method, "PUT") {
         read_put(name, rest)
@@ -78,8 +80,8 @@ fn read_behind_name<'a>(method: &[u8], name: &'a [u8], rest: &'a [u8]) -> Option
 }
 
 fn read_put<'a>(name: &'a [u8], rest: &'a [u8]) -> Option<Route<'a>>
-    ensures some { IfSome result (λ route. IsBehindName (line_of route) (codes "PUT") name.now rest.now) }
-    ensures none { result ≡ None → (line : Line) → ¬ IsBehindName line (codes "PUT") name.now rest.now }
+    ensures some { IfSome result (λ route. IsAfterName (route_value route) (codes "PUT") name.now rest.now) }
+    ensures none { result ≡ None → (value : RouteValue) → ¬ IsAfterName value (codes "PUT") name.now rest.now }
 {
     if rest.is_empty() {
         Some(Route::Put(name))
@@ -94,8 +96,8 @@ fn read_put<'a>(name: &'a [u8], rest: &'a [u8]) -> Option<Route<'a>>
 }
 
 fn read_get<'a>(name: &'a [u8], rest: &'a [u8]) -> Option<Route<'a>>
-    ensures some { IfSome result (λ route. IsBehindName (line_of route) (codes "GET") name.now rest.now) }
-    ensures none { result ≡ None → (line : Line) → ¬ IsBehindName line (codes "GET") name.now rest.now }
+    ensures some { IfSome result (λ route. IsAfterName (route_value route) (codes "GET") name.now rest.now) }
+    ensures none { result ≡ None → (value : RouteValue) → ¬ IsAfterName value (codes "GET") name.now rest.now }
 {
     if rest.is_empty() {
         return Some(Route::Endpoint(name));
@@ -104,14 +106,14 @@ fn read_get<'a>(name: &'a [u8], rest: &'a [u8]) -> Option<Route<'a>>
     has_no(id, b'/').then_some(Route::Event(name, id))
 }
 
-// Whether the byte stands nowhere in the text.
+// Whether the byte isn't in the text.
 fn has_no(text: &[u8], byte: u8) -> bool
     ensures { result ≡ has_no byte text.now }
 {
     text.iter().all(|c| !(*c == byte))
 }
 
-// What stands before the first of these bytes, or the whole text; and what stands from it on.
+// The text before the first of these bytes, or the whole text; and the text from it on.
 fn split(text: &[u8], byte: u8) -> (&[u8], &[u8])
     ensures front { result.0.now ≡ before_first (λ c. c == byte) text.now }
     ensures whole { text.now ≡ result.0.now ++ result.1.now }

@@ -17,14 +17,14 @@ use run_log::{Log, LogId};
 use std::sync::Wait;
 use std::sync::ledger::Ledger;
 
-// What an event is told where its body can't be shared.
+// The error of an event whose body can't be shared.
 const NO_MEMORY: Refusal = Refusal {
     number: 8,
     fault: Fault::OutOfMemory,
 };
 
 /// Submits an event, and waits until it is settled or won't be. The body is shared first, and only
-/// memory may be refused there; once the end was asked for nothing is taken.
+/// an allocation may fail there. Nothing is taken after the end was asked for.
 pub fn submit_and_wait<L: Ledger, I: LogId, R: Wait>(
     rt: &R,
     shared: &Shared<L, I>,
@@ -47,7 +47,8 @@ pub fn submit_and_wait<L: Ledger, I: LogId, R: Wait>(
     acknowledge(shared.log(), &mut *locked, ticket, body, pass)
 }
 
-// Acknowledges a submission that is waited for no more: it is settled, the desk halted, or a purge removed the event.
+// Acknowledges a submission after the wait: it is settled, the desk halted, or a purge removed the
+// event.
 fn acknowledge<L: Ledger, I: LogId>(
     log: &Log<I>,
     locked: &mut Locked<L, I>,
@@ -68,8 +69,9 @@ fn acknowledge<L: Ledger, I: LogId>(
     Ok(ack)
 }
 
-/// Publishes an event, and waits until it is settled or won't be at each subscriber of the topic. The body is shared
-/// first, and only memory may be refused there; once the end was asked for nothing is taken.
+/// Publishes an event, and waits until it is settled or won't be at each subscriber of the topic.
+/// The body is shared first, and only an allocation may fail there. Nothing is taken after the end
+/// was asked for.
 pub fn publish_and_wait<L: Ledger, I: LogId, R: Wait>(
     rt: &R,
     shared: &Shared<L, I>,
@@ -92,8 +94,8 @@ pub fn publish_and_wait<L: Ledger, I: LogId, R: Wait>(
     acknowledge_all(shared.log(), &mut *locked, event, body, pass)
 }
 
-// Acknowledges an event that is waited for no more: it is settled at each subscriber, the desk halted, or a purge
-// removed it.
+// Acknowledges an event after the wait: it is settled at each subscriber, the desk halted, or a
+// purge removed it.
 fn acknowledge_all<L: Ledger, I: LogId>(
     log: &Log<I>,
     locked: &mut Locked<L, I>,
@@ -115,7 +117,8 @@ fn acknowledge_all<L: Ledger, I: LogId>(
     Ok(ack)
 }
 
-/// Makes a change, and waits until it is settled or won't be. Once the end was asked for nothing is taken.
+/// Makes a change, and waits until it is settled or won't be. Nothing is taken after the end was
+/// asked for.
 pub fn command_and_wait<L: Ledger, I: LogId, R: Wait>(
     rt: &R,
     shared: &Shared<L, I>,
@@ -132,7 +135,7 @@ pub fn command_and_wait<L: Ledger, I: LogId, R: Wait>(
     confirm(shared.log(), &mut *locked, change, pass)
 }
 
-// Confirms a change that is waited for no more: it is settled, or the desk halted.
+// Confirms a change after the wait: it is settled, or the desk halted.
 fn confirm<L: Ledger, I: LogId>(
     log: &Log<I>,
     locked: &mut Locked<L, I>,

@@ -1,5 +1,5 @@
 use Rattle.std.proofs.Common.{inr}
-use Rattle.intake_shed.proofs.AnswerLaws.{answers_what, not_read_lacks, read_not_refused, refused_so}
+use Rattle.intake_shed.proofs.AnswerLaws.{answers_what, not_read_lacks, read_not_refused, refused_reply}
 use Rattle.intake_shed.proofs.answering.answer.Goals as goal
 
 pub returns-in-Ok-clause-answers : goal.returns-in-Ok-clause-answers
@@ -16,4 +16,4 @@ pub returns-in-Err-clause-asks : goal.returns-in-Err-clause-asks
 returns-in-Err-clause-asks g c = λ what h. not_read_lacks what _ c.in-Err.reply (c.in-Err.ensures.asks what h)
 
 pub returns-in-Err-clause-refuses : goal.returns-in-Err-clause-refuses
-returns-in-Err-clause-refuses g c = λ why h. refused_so why c.in-Err.reply (c.in-Err.ensures.refuses why h)
+returns-in-Err-clause-refuses g c = λ why h. refused_reply why c.in-Err.reply (c.in-Err.ensures.refuses why h)

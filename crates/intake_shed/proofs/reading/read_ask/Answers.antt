@@ -1,5 +1,5 @@
 use Rattle.std.proofs.Common.{inl, ap, Ok}
-use Rattle.intake_shed.proofs.OneReason.{one_asked, asked_not_refused, not_read, told, lacks_memory}
+use Rattle.intake_shed.proofs.OneReason.{one_asked, asked_not_refused, not_read, refuses_with, lacks_memory}
 use Rattle.intake_shed.proofs.reading.read_ask.Goals as goal
 
 pub returns-in-Ok-clause-asks : goal.returns-in-Ok-clause-asks
@@ -17,5 +17,5 @@ returns-in-Err-clause-asks c = λ what h.
 
 pub returns-in-Err-clause-refuses : goal.returns-in-Err-clause-refuses
 returns-in-Err-clause-refuses c = λ why h.
-    told c.args.ask.now c.reply.result why
+    refuses_with c.args.ask.now c.reply.result why
     (not_read c.args.ask.now c.in-Err.fault c.reply.result c.reply.ensures c.in-Err.ensures.refused) h

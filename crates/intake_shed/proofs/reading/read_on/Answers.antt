@@ -3,10 +3,10 @@ use Rattle.std.specs.Prelude.{IfErr, IsErrAnd}
 use Rattle.std.proofs.lemmas.Bool.{and_from}
 use Rattle.std.proofs.lemmas.Result.{err_from_is_err_and}
 use Rattle.relay_types.specs.Values.{Text, is_name}
-use Rattle.intake_shed.specs.Bodies.{IsBadPut, OfBody}
-use Rattle.intake_shed.specs.Lines.{Put}
-use Rattle.intake_shed.specs.Requests.{IsBadOn, has_room, has_parts, bytes_of}
-use Rattle.intake_shed.specs.Routes.{line_of}
+use Rattle.intake_shed.specs.Bodies.{IsBadPut, IsBadByValue}
+use Rattle.intake_shed.specs.RouteTable.{Put}
+use Rattle.intake_shed.specs.Requests.{FailsOnRoute, is_within_limit, has_parts, bytes_of}
+use Rattle.intake_shed.specs.Routes.{route_value}
 use Rattle.intake_shed.specs.declared.ask.Ask.{Ask}
 use Rattle.intake_shed.specs.declared.fault.RequestError.{RequestError}
 use Rattle.intake_shed.specs.declared.fault.RequestError.TheVariants as fault
@@ -24,7 +24,7 @@ handed_on {A} result why P h p =
 
 -- a bad body of a new endpoint is one of the checks after those of name and size
 bad_put_on : (name : Text) (ask : Ask) (why : RequestError) → IsTrue (has_parts (Put name) ask)
-    → OfBody IsBadPut (bytes_of ask.body) why → IsBadOn (Put name) ask why
+    → IsBadByValue IsBadPut (bytes_of ask.body) why → FailsOnRoute (Put name) ask why
 bad_put_on name ask fault.NotFound parts h = (parts, h)
 bad_put_on name ask fault.BadName parts (v, json, (url, max, list, members, bad)) = absurd bad
 bad_put_on name ask fault.TooLong parts (v, json, (url, max, list, members, bad)) = absurd bad
@@ -41,13 +41,14 @@ returns-in_err-read_put-in-Put-clause-refused c =
     let ask = c.args.ask.now in
     let name = c.in-Put.name.now in
     let why = c.in_err-read_put-in-Put.field-0.0 in
-    let roomy : IsTrue (has_room ask.body && true) = and_from (has_room ask.body) true
+    let roomy : IsTrue (is_within_limit ask.body && true) = and_from (is_within_limit ask.body) true
     c.in_ok-body-in-Put.ensures.passes refl in
-    let parts : IsTrue (has_parts (Put name) ask) = and_from (is_name name) (has_room ask.body && true)
+    let parts : IsTrue (has_parts (Put name) ask) = and_from (is_name name) (is_within_limit ask.body && true)
     c.in_ok-name-in-Put.ensures.passes roomy in
-    let bad : OfBody IsBadPut (bytes_of ask.body) why =
-    subst (λ body. OfBody IsBadPut body why) c.in_ok-body-in-Put.ensures.bytes c.in_err-read_put-in-Put.ensures.refused
+    let bad : IsBadByValue IsBadPut (bytes_of ask.body) why =
+    subst (λ body. IsBadByValue IsBadPut body why) c.in_ok-body-in-Put.ensures.bytes
+    c.in_err-read_put-in-Put.ensures.refused
     in
-    handed_on c.from_residual-in_err-read_put-in-Put.result why (λ y. IsBadOn (line_of c.args.route) ask y)
+    handed_on c.from_residual-in_err-read_put-in-Put.result why (λ y. FailsOnRoute (route_value c.args.route) ask y)
     c.from_residual-in_err-read_put-in-Put.ensures.1
-    (subst (λ route. IsBadOn (line_of route) ask why) (sym c.in-Put.is) (bad_put_on name ask why parts bad))
+    (subst (λ route. FailsOnRoute (route_value route) ask why) (sym c.in-Put.is) (bad_put_on name ask why parts bad))

@@ -1,8 +1,8 @@
 use Rattle.std.proofs.Common.{◌≡◌, ◌∙◌, codes, sym, subst, Bool, true, false, ◌++◌, List, ℕ, Option, None}
 use Rattle.std.specs.Bool.{then_some}
 use Rattle.text_lines.proofs.NumberLaws.{true_not_false}
-use Rattle.intake_shed.specs.Lines.{IsLine}
-use Rattle.intake_shed.proofs.PathLaws.{behind_topics}
+use Rattle.intake_shed.specs.RouteTable.{IsRouteOf}
+use Rattle.intake_shed.proofs.PathLaws.{after_topics}
 use Rattle.intake_shed.proofs.routes.read_topic.Goals.{then-is_word, else-is_word}
 use Rattle.intake_shed.proofs.routes.read_topic.Goals as goal
 
@@ -14,12 +14,13 @@ given true x result is holds none =
 given false x result is holds none = true_not_false (sym holds)
 
 pub returns-clause-none : goal.returns-clause-none
-returns-clause-none c = λ none line h.
+returns-clause-none c = λ none route h.
     let topic = c.split.result.0.now in
     let rest = c.split.result.1.now in
     let there =
-    subst (λ (named : List ℕ). IsLine line c.args.method.now (codes "/v1/topics/" ++ named)) c.split.ensures.whole h in
-    let is = behind_topics line c.args.method.now topic rest c.split.ensures.clean c.split.ensures.rest there in
+    subst (λ (named : List ℕ). IsRouteOf route c.args.method.now (codes "/v1/topics/" ++ named)) c.split.ensures.whole h
+    in
+    let is = after_topics route c.args.method.now topic rest c.split.ensures.clean c.split.ensures.rest there in
     elim c.if-is_word.branch [
       | then-is_word w ↦
           given _ _ _ c.then_some.ensures (w.is_publish-is ∙ w.is_word-is_publish.ensures.1 is.1) none

@@ -1,24 +1,25 @@
--- The lines of the table of requests. A path is told by printing: a request stands on a line where its method is the
--- line's, and its path, with the query cut off, is the line's with these parts in it. Nothing is decoded.
+-- The table of requests, one route a line. A request is on a route if its method is the route's,
+-- and its path, with the query cut off, is the route's path printed with these parts. Nothing is
+-- decoded.
 use Rattle.std.specs.Prelude.{◌≡◌, ◌==◌, ◌&&◌, true, Bool, List, [], ◌∷◌, ◌++◌, IsTrue, codes}
 use Rattle.std.specs.List.{list_all, before_first}
 use Rattle.relay_types.specs.Values.{Text, is_name}
 use Rattle.text_lines.specs.Parts.{has_no}
 
--- a line, with the parts of its path that each request fills in
-pub data Line : Type 0 where
-  Put : (name : Text) → Line
-  SetSecrets : (name : Text) → Line
-  SetEnabled : (name : Text) → Line
-  SetSubscribed : (name topic : Text) → Line
-  Submit : (name : Text) → Line
-  Publish : (topic : Text) → Line
-  Retention : Line
-  Totals : Line
-  Endpoint : (name : Text) → Line
-  Event : (name id : Text) → Line
+-- a route, with the parts of its path that each request fills in
+pub data RouteValue : Type 0 where
+  Put : (name : Text) → RouteValue
+  SetSecrets : (name : Text) → RouteValue
+  SetEnabled : (name : Text) → RouteValue
+  SetSubscribed : (name topic : Text) → RouteValue
+  Submit : (name : Text) → RouteValue
+  Publish : (topic : Text) → RouteValue
+  Retention : RouteValue
+  Totals : RouteValue
+  Endpoint : (name : Text) → RouteValue
+  Event : (name id : Text) → RouteValue
 
-abbrev pub method_of : Line → Text
+abbrev pub method_of : RouteValue → Text
 method_of (Put name) = codes "PUT"
 method_of (SetSecrets name) = codes "PUT"
 method_of (SetEnabled name) = codes "PUT"
@@ -30,7 +31,7 @@ method_of Totals = codes "GET"
 method_of (Endpoint name) = codes "GET"
 method_of (Event name id) = codes "GET"
 
--- the path of an endpoint, and what stands after its name
+-- the path of an endpoint, and what follows its name
 abbrev pub endpoint_path : (name rest : Text) → Text
 endpoint_path name rest = codes "/v1/endpoints/" ++ (name ++ rest)
 
@@ -38,7 +39,7 @@ endpoint_path name rest = codes "/v1/endpoints/" ++ (name ++ rest)
 abbrev pub topic_path : (topic : Text) → Text
 topic_path topic = codes "/v1/topics/" ++ (topic ++ codes "/events")
 
-abbrev pub path_of : Line → Text
+abbrev pub path_of : RouteValue → Text
 path_of (Put name) = endpoint_path name []
 path_of (SetSecrets name) = endpoint_path name (codes "/secrets")
 path_of (SetEnabled name) = endpoint_path name (codes "/enabled")
@@ -51,7 +52,7 @@ path_of (Endpoint name) = endpoint_path name []
 path_of (Event name id) = endpoint_path name (codes "/events/" ++ id)
 
 -- the parts that a request fills in: any bytes but `/`, also none
-abbrev pub parts_of : Line → List Text
+abbrev pub parts_of : RouteValue → List Text
 parts_of (Put name) = name ∷ []
 parts_of (SetSecrets name) = name ∷ []
 parts_of (SetEnabled name) = name ∷ []
@@ -67,14 +68,14 @@ parts_of (Event name id) = name ∷ id ∷ []
 abbrev pub before_query : (path : Text) → Text
 before_query path = before_first (λ c. c == 63) path
 
--- these are a line's method and path
-pub record IsLine (line : Line) (method path : Text) : Type 0 where
-  pub of_method : method ≡ method_of line
-  pub of_path : path ≡ path_of line
-  pub no_slash : IsTrue (list_all (has_no 47) (parts_of line))
+-- these are the route's method and path
+pub record IsRouteOf (route : RouteValue) (method path : Text) : Type 0 where
+  pub of_method : method ≡ method_of route
+  pub of_path : path ≡ path_of route
+  pub no_slash : IsTrue (list_all (has_no 47) (parts_of route))
 
--- whether the names of the endpoint and of the topic, if the line has them, are names
-abbrev pub has_name : Line → Bool
+-- whether the names of the endpoint and of the topic, if the route has them, are names
+abbrev pub has_name : RouteValue → Bool
 has_name (Put name) = is_name name
 has_name (SetSecrets name) = is_name name
 has_name (SetEnabled name) = is_name name
