@@ -10,7 +10,8 @@ use Rattle.uuid.specs.declared.Version.TheVariants.{Random}
 abbrev pub made_id : (uuid : List ℕ) → List ℕ
 made_id uuid = codes "msg_" ++ hyphenated_text lower uuid
 
--- the UUID of version 4 of sixteen bytes: all of their bits, except six that say its variant and its version
+-- the UUID of version 4 of sixteen bytes: all of their bits, except six that say its variant and
+-- its version
 abbrev pub random_uuid : (bytes : List ℕ) → List ℕ
 random_uuid bytes = with_version (with_variant bytes RFC4122) Random
 

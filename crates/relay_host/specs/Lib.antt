@@ -1,4 +1,4 @@
 pub mod Fresh
-pub mod Hosts
-pub mod Looking
-pub mod Placing
+pub mod Clocks
+pub mod FileChecks
+pub mod FileGuards

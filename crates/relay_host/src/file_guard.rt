@@ -1,9 +1,9 @@
-//! A keeper whose file has to stand where it was opened.
+//! A keeper whose file has to be where it was opened.
 ghost use Rattle.std.specs.Prelude.{◌≡◌, ◌⊎◌, ◌↔◌, false, Some, IsTrue, IfOk, IfErr, Err};
 ghost use Rattle.spool.specs.Commits.{HandsBack, IsDoubt};
 ghost use Rattle.spool.specs.declared.faults.Unchanged.{Unchanged};
 ghost use Rattle.delivery.specs.Keepers.{Counts, Leaves};
-ghost use Rattle.relay_host.specs.Placing.{keeper_of, place_of, refusal_at, sight_of};
+ghost use Rattle.relay_host.specs.FileGuards.{keeper_of, place_of, refusal_at, sight_of};
 
 use crate::place::{FileCheck, Place};
 use delivery::Keeper;
@@ -32,14 +32,14 @@ impl<K: Keeper + Drop, P: Place + Drop> FileGuard<K, P> {
         }
     }
 
-    /// The keeper, wherever its place is.
+    /// The keeper, whatever its place is.
     pub fn into_keeper(self) -> K
         ensures { result ≡ keeper_of self }
     {
         self.keeper
     }
 
-    /// What the last look found; before the first one, that it stands.
+    /// What the last look found; before the first one, that the file is there.
     pub fn sight(&self) -> FileCheck
         ensures { result ≡ sight_of self.now }
     {
@@ -47,7 +47,7 @@ impl<K: Keeper + Drop, P: Place + Drop> FileGuard<K, P> {
     }
 }
 
-// As what a batch is handed back where a look finds this.
+// Why a batch is handed back if a look finds this.
 fn refusal_at(sight: FileCheck) -> Option<Unchanged>
     ensures { result ≡ refusal_at sight }
 {

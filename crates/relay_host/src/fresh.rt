@@ -1,4 +1,4 @@
-//! Ids of events whose submitters name none.
+//! Ids of events that are submitted without one.
 ghost use Rattle.std.specs.Prelude.{◌≡◌, IfOk, IfSome};
 ghost use Rattle.relay_host.specs.Fresh.{IsMadeId, IsMadeOf, made_id};
 
@@ -35,7 +35,7 @@ impl<R: RandomSource> RandomBytes for HostRandom<'_, R> {
 }
 
 /// An id that nobody used before, as far as chance goes: `msg_` and a UUID of version 4 (RFC 9562,
-/// section 5.4), with hyphens and in lower case. It fails where the system's source of random bytes
+/// section 5.4), with hyphens and in lower case. It fails if the system's source of random bytes
 /// does.
 pub fn fresh_id<R: RandomSource>(rt: &R) -> io::Result<MsgId>
     ensures { IfOk result IsMadeId }
@@ -43,7 +43,8 @@ pub fn fresh_id<R: RandomSource>(rt: &R) -> io::Result<MsgId>
     fresh_id_from(&HostRandom { rt })
 }
 
-/// The same of a source's bytes: all of their bits, except the six that say the version and the variant.
+/// The same of a source's bytes: all of their bits, except the six that say the version and the
+/// variant.
 pub fn fresh_id_from<S: RandomBytes>(source: &S) -> io::Result<MsgId>
     ensures { IfOk result (IsMadeOf (S.gives source.now)) }
 {

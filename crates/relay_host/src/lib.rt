@@ -1,4 +1,5 @@
-//! What the system gives a relay: ids that nobody used before, the moment, and whether its file is still at its path.
+//! What the system gives a relay: ids that nobody used before, the moment, and whether its file is
+//! still at its path.
 #![tactic(auto)]
 
 mod file_guard;

@@ -1,7 +1,7 @@
 //! Moments by the system's clock.
 ghost use Rattle.std.specs.Prelude.{◌≡◌, min};
 ghost use Rattle.relay_types.specs.declared.limits.TheConstants.{MAX_MOMENT};
-ghost use Rattle.relay_host.specs.Hosts.{runtime_of};
+ghost use Rattle.relay_host.specs.Clocks.{runtime_of};
 
 use delivery::Clock;
 use relay_types::{MAX_MOMENT, Moment};

@@ -1,8 +1,8 @@
-//! Whether a file still stands where it was opened.
+//! Whether a file is still where it was opened.
 ghost use Rattle.std.specs.Prelude.{◌≡◌, ◌↔◌, ◌⊎◌, true, false, None, IsSome, IfOk, IfErr};
 ghost use Rattle.std.specs.IoError.{error_kind};
-ghost use Rattle.relay_host.specs.Placing.{IsPlaceOf, IsSightOf};
-ghost use Rattle.relay_host.specs.Looking.{sight_after};
+ghost use Rattle.relay_host.specs.FileGuards.{IsPlaceOf, IsCheckOf};
+ghost use Rattle.relay_host.specs.FileChecks.{check_of_error};
 ghost use Rattle.relay_host.specs.declared.place.FileCheck.{FileCheck};
 
 use std::alloc::{AllocError, Global};
@@ -12,7 +12,7 @@ use std::os::unix::fs::MetadataExt;
 use std::time::{Clock, Duration};
 use std::{fs, thread};
 
-/// So many looks are made at a file that can't be looked at, and so long after one another: ten seconds of them.
+/// How often a file that can't be seen is looked at, and with which pause between: for ten seconds.
 const LOOKS: u32 = 101;
 
 const PAUSE_MILLIS: u64 = 100;
@@ -20,31 +20,30 @@ const PAUSE_MILLIS: u64 = 100;
 /// What a look at a place finds.
 #[derive(Clone, Copy, PartialEq, Eq, Debug)]
 pub enum FileCheck {
-    /// What was opened stands there.
+    /// What was opened is there.
     Stands,
-    /// Nothing stands there, or something else.
+    /// Nothing is there, or something else.
     Gone,
-    /// The system doesn't let anybody look, as for want of rights or of an answer.
+    /// The system doesn't show it, for example because rights are missing or it doesn't answer.
     Unseen,
-    /// Memory was refused.
+    /// An allocation failed.
     OutOfMemory,
 }
 
-/// A place at which something was opened. It names what a look may find, and what it leaves.
+/// A place at which something was opened. It names what a look may find, and its state after that.
 pub trait Place {
     ghost use Rattle.std.specs.Prelude.{⊤};
     ghost use Rattle.relay_host.specs.declared.place.FileCheck.{FileCheck};
 
     ghost finds: { Self → Self → FileCheck → Type 0 } = { λ _ _ _. ⊤ };
 
-    /// Looks what stands there now.
+    /// Looks what is there now.
     fn look(&mut self) -> FileCheck
         ensures { finds self.old self.new result };
 }
 
 /// A file and its log at their paths. Device and number, as `stat` gives them (POSIX.1-2017),
-/// distinguish them from others. The log of a file to which the path leads by a link isn't looked
-/// at.
+/// distinguish them from others. If the path leads to the file by a link, its log isn't looked at.
 #[derive(Drop)]
 pub struct FilePlace<'a, F: Files + Clock> {
     files: &'a F,
@@ -78,17 +77,17 @@ impl<'a, F: Files + Clock> FilePlace<'a, F> {
         })
     }
 
-    /// Takes what is there now for what was opened. If it can't be looked at, the next look takes
-    /// it. It leaves what a look leaves.
+    /// Takes what is there now for what was opened. If it can't be seen, the next look takes it. It
+    /// changes the same as a look.
     pub fn remember(&mut self)
-        ensures { (sight : FileCheck) × IsSightOf self.old self.new sight }
+        ensures { (sight : FileCheck) × IsCheckOf self.old self.new sight }
     {
         let _seen = self.look();
     }
 
     // One look.
     fn glance(&mut self) -> FileCheck
-        ensures { IsSightOf self.old self.new result }
+        ensures { IsCheckOf self.old self.new result }
     {
         match (
             node_at(self.files, self.path),
@@ -99,7 +98,7 @@ impl<'a, F: Files + Clock> FilePlace<'a, F> {
         }
     }
 
-    // What stands there, beside what was opened.
+    // Compares what is there with what was opened.
     fn sees(&mut self, file: Option<Node>, log: Option<Node>) -> FileCheck
         ensures file_path { self.new.path ≡ self.old.path }
         ensures log_path { self.new.log_path ≡ self.old.log_path }
@@ -128,13 +127,13 @@ impl<'a, F: Files + Clock> FilePlace<'a, F> {
 }
 
 impl<F: Files + Clock> Place for FilePlace<'_, F> {
-    ghost use Rattle.relay_host.specs.Placing.{IsSightOf};
+    ghost use Rattle.relay_host.specs.FileGuards.{IsCheckOf};
 
-    ghost finds = { IsSightOf };
+    ghost finds = { IsCheckOf };
 
-    /// The first look that sees the file takes what stands there for what was opened. A log that
-    /// wasn't there before is the file's own from then on. A file that can't be looked at is looked
-    /// at again, for ten seconds at most.
+    /// The first look that finds out what is there takes that for what was opened. A log that
+    /// wasn't there before is the file's own from then on. A file that can't be seen is looked at
+    /// again, for ten seconds at most.
     fn look(&mut self) -> FileCheck {
         for _ in 1..LOOKS {
             match self.glance() {
@@ -146,7 +145,7 @@ impl<F: Files + Clock> Place for FilePlace<'_, F> {
     }
 }
 
-// Which file stands at the path, if one does, or why that can't be said.
+// Which file is at the path, if one is, or why that can't be found out.
 fn node_at<F: Files>(files: &F, path: &str) -> Result<Option<Node>, FileCheck>
     ensures { IfErr result (λ sight. (sight ≡ FileCheck.Unseen) ⊎ (sight ≡ FileCheck.OutOfMemory)) }
 {
@@ -155,16 +154,16 @@ fn node_at<F: Files>(files: &F, path: &str) -> Result<Option<Node>, FileCheck>
             device: found.dev(),
             number: found.ino(),
         })),
-        Err(error) => match sight_after(error) {
+        Err(error) => match check_of_error(error) {
             FileCheck::Gone => Ok(None),
             unseen => Err(unseen),
         },
     }
 }
 
-// What a refusal to look tells: that nothing stands at the path, or nothing of what stands there.
-fn sight_after(error: io::Error) -> FileCheck
-    ensures { result ≡ sight_after (error_kind error) }
+// What an error of a look means: that nothing is at the path, or that what is there can't be seen.
+fn check_of_error(error: io::Error) -> FileCheck
+    ensures { result ≡ check_of_error (error_kind error) }
 {
     match error.kind() {
         ErrorKind::NotFound | ErrorKind::NotADirectory | ErrorKind::FilesystemLoop =>

@@ -6,7 +6,7 @@ use Rattle.spool.specs.Commits.{HoldsOnDisk}
 use Rattle.spool.specs.Entering.{RestsInDoubt}
 use Rattle.spool.specs.Vaults.{VaultValue}
 use Rattle.delivery.specs.Keepers.{AppendsBatches, KeepsLog}
-use Rattle.relay_host.specs.Placing.{keeper_of}
+use Rattle.relay_host.specs.FileGuards.{keeper_of}
 use Rattle.relay_serve.specs.Serving.{AddsBatches, AddsEvent, committer_end}
 use Rattle.relay_serve.specs.declared.fault.ServeFault.{ServeFault}
 use Rattle.relay_serve.proofs.ServingLaws.{added, added_still, event_of_base, event_still, logged_event, no_event}
