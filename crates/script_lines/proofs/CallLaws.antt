@@ -1,4 +1,4 @@
--- A call by its first word, and by the words behind it.
+-- A call by its first word, and by the words after it.
 use Rattle.std.proofs.Common.{◌≡◌, ◌≤◌, ◌-◌, suc, drop, take, ◌==◌, subst, length, get_or, arith, ℕ, Bool, true, false}
 use Rattle.std.proofs.Common.{List, [], ◌∷◌, codes, refl, sym, ap, ◌∙◌}
 use Rattle.std.specs.Prelude.{bytes_eq, ◌&&◌, decimal, IsTrue}
@@ -13,7 +13,7 @@ use Rattle.script_lines.specs.declared.call.Call.TheVariants as on
 use Rattle.retry_table.specs.declared.post.PostResult.{PostResult}
 use Rattle.text_lines.specs.Words.{IsSecretsWord}
 use Rattle.script_lines.specs.Script.{IsPut, IsSecrets, IsNamed, IsSubscribed, IsTold, IsSubmit, IsMoment, IsSpend}
-use Rattle.script_lines.specs.Script.{IsShow, MayLackForSecrets, MayLackForSubmit, call_word, AreArguments}
+use Rattle.script_lines.specs.Script.{IsShow, MayAllocateForSecrets, MayAllocateForSubmit, call_word, AreArguments}
 use Rattle.text_lines.proofs.NumberLaws.{bytes_equal, true_not_false}
 
 -- two words that differ are not one
@@ -228,7 +228,7 @@ only_halt P word words is own (on.Subscribed topic name flag) e h = absurd
     (apart_subscribed (codes "halt") word topic name flag refl refl is e)
 only_halt P word words is own call e h = absurd (apart (codes "halt") (call_word call) word refl is e)
 
--- ---- the words behind the first one
+-- ---- the words after the first one
 
 pub some_text : (words : List (Bor (List ℕ))) (r : Bool) → r ≡ (length words == 0) → r ≡ false → texts words ≡ [] → ⊥
 some_text [] r e none h = cc
@@ -287,12 +287,13 @@ new_secrets a b name secrets (word, reads, e, valid) =
     let same : word ≡ b = cc in
     subst (λ xs. IsSecretsWord xs secrets) same reads
 
--- ---- words for which memory may be lacking
+-- ---- words for which something is allocated
 
 pub lacks_secrets : (name word : List ℕ) → IsTrue (is_name name) → (secrets : List (List ℕ))
-    × IsSecretsWord word secrets → MayLackForSecrets (name ∷ word ∷ [])
+    × IsSecretsWord word secrets → MayAllocateForSecrets (name ∷ word ∷ [])
 lacks_secrets name word named (secrets, reads) = (name, secrets, (word, reads, refl, named))
 
 pub lacks_submit : (words : List (Bor (List ℕ))) (a b c d : List ℕ) → texts words ≡ a ∷ b ∷ c ∷ d ∷ [] → (moment : ℕ)
-    × (a ≡ decimal moment) × IsTrue (is_moment moment && (is_name b && is_msg_id c)) → MayLackForSubmit (texts words)
+    × (a ≡ decimal moment) × IsTrue (is_moment moment && (is_name b && is_msg_id c))
+    → MayAllocateForSubmit (texts words)
 lacks_submit words a b c d is (moment, same, valid) = (moment, b, c, d, is ∙ ap (λ w. w ∷ b ∷ c ∷ d ∷ []) same, valid)

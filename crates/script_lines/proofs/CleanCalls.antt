@@ -1,4 +1,4 @@
--- No space stands in a word of a call, so the words of a line tell its call.
+-- No word of a call has a space, so the words of a line determine its call.
 use Rattle.std.proofs.Common.{◌≡◌, ◌≢◌, ℕ, suc, ◌<◌, ◌≤◌, ◌^◌, length, ap, arith, true, false, List, [], ◌∷◌, decimal}
 use Rattle.std.proofs.Common.{codes, IsTrue, refl, sym, subst, lit<}
 use Rattle.std.specs.Prelude.{◌&&◌, nat_le}
@@ -14,8 +14,7 @@ use Rattle.script_lines.specs.declared.call.Call.TheVariants as on
 use Rattle.retry_table.specs.declared.post.PostResult.{PostResult}
 use Rattle.retry_table.specs.declared.post.PostResult.TheVariants.{Answered, TimedOut, Unreached, Unsent}
 use Rattle.script_lines.specs.Script.{IsMoment, IsNamed, IsSubmit, IsResult, HasFewWords, call_word, AreArguments}
-use Rattle.script_lines.specs.Script.{IsCall}
-use Rattle.script_lines.specs.Script.{ReadsLine}
+use Rattle.script_lines.specs.Script.{IsCall, IsLineOfCall}
 
 four_clean : (a b c d : List ℕ) → IsTrue (has_no 32 a) → IsTrue (has_no 32 b) → IsTrue (has_no 32 c)
     → IsTrue (has_no 32 d) → IsTrue (list_all (has_no 32) (a ∷ b ∷ c ∷ d ∷ []))
@@ -125,7 +124,7 @@ parts_of_call text words call e (arguments, is, told) =
     let clean : IsTrue (list_all (has_no 32) words) = rw (is, clean-word call) (clean-arguments arguments call told) in
     (e, some_word words arguments (call_word call) is, clean)
 
-pub the_call : (text : List ℕ) (parts : List (List ℕ)) (call : Call) → HasParts 32 text parts → ReadsLine text call
+pub the_call : (text : List ℕ) (parts : List (List ℕ)) (call : Call) → HasParts 32 text parts → IsLineOfCall text call
     → IsCall parts call
 the_call text parts call h (words, e, is) =
     subst (λ xs. IsCall xs call) (parts_equal 32 text words parts (parts_of_call text words call e is) h) is
@@ -175,7 +174,7 @@ length-arguments words (on.Show name id) (e, valid) = let n : length words ≡ 2
 -- more words than a call has
 pub many_words : (text : List ℕ) (count : ℕ) → ((words : List (List ℕ)) → HasParts 32 text words → count ≡ length words)
     → 5 < count
-    → (call : Call) → ReadsLine text call → ⊥
+    → (call : Call) → IsLineOfCall text call → ⊥
 many_words text count counts many call (words, e, (arguments, is, told)) =
     let same = counts words (parts_of_call text words call e (arguments, is, told)) in
     let long : length words ≡ suc (length arguments) = ap length is in

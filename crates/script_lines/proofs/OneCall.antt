@@ -1,4 +1,4 @@
--- One text stands for one line at most.
+-- A text is at most one line.
 use Rattle.std.proofs.Common.{◌≡◌, ◌<◌, ◌^◌, ℕ, Bool, true, false, List, [], ◌∷◌, get_or, arith, codes, decimal, IsTrue}
 use Rattle.std.proofs.Common.{refl, sym, ap, subst, lit<, ◌∙◌}
 use Rattle.std.specs.Prelude.{◌&&◌, bytes_eq, nat_le}
@@ -20,7 +20,7 @@ use Rattle.script_lines.specs.declared.call.Call.TheVariants as on
 use Rattle.script_lines.specs.declared.call.Line.{Line}
 use Rattle.script_lines.specs.declared.call.Line.TheVariants as as_line
 use Rattle.script_lines.specs.Script.{IsPut, IsSecrets, IsNamed, IsSubscribed, IsTold, IsSubmit, IsMoment, IsResult}
-use Rattle.script_lines.specs.Script.{IsSpend, IsShow, call_word, AreArguments, IsCall, ReadsLine, IsLine}
+use Rattle.script_lines.specs.Script.{IsSpend, IsShow, call_word, AreArguments, IsCall, IsLineOfCall, IsLine}
 use Rattle.script_lines.specs.Script.{HasOneLineAtMost}
 use Rattle.script_lines.proofs.CallLaws.{only_put, only_secrets, only_enable, only_disable, only_submit, only_publish}
 use Rattle.script_lines.proofs.CallLaws.{only_purge, only_told}
@@ -48,7 +48,7 @@ same_put words name target max secrets name' target' max' secrets' (word, reads,
         (and_parts (is_name name) (is_target target && is_max_limit max) valid).1 in
         at_most max 1000 (and_parts (nat_le 1 max) (nat_le max 1000) limit.1).1 (lit< tt)
 
--- an event's arguments make one call, whichever word stands before them
+-- an event's arguments make one call, whichever word is before them
 same_event : (make : ℕ → List ℕ → List ℕ → List ℕ → Call) (words : List (List ℕ)) (now : ℕ) (name id body : List ℕ)
     (now' : ℕ) (name' id' body' : List ℕ)
     → IsSubmit words now name id body → IsSubmit words now' name' id' body' → make now name id body
@@ -166,7 +166,7 @@ same_spend words delivery now post delivery' now' post' (results, told, e, small
 name_or_event : (words : List (List ℕ)) (name name' id : List ℕ) → IsNamed words name → IsShow words name' id → ⊥
 name_or_event words name name' id (e, valid) (e', valid') = cc
 
--- one word and the words behind it are those of one call at most
+-- one word and the words after it are those of at most one call
 same_arguments_of : (words : List (List ℕ)) (a b : Call) → call_word a ≡ call_word b → AreArguments words a
     → AreArguments words b → a ≡ b
 same_arguments_of words (on.Put name target max secrets) b e h =
@@ -231,7 +231,7 @@ same_call words a b (behind, e, h) (behind', e', h') =
     let others : behind' ≡ behind = cc in
     same_arguments_of behind a b first h (subst (λ xs. AreArguments xs b) others h')
 
-one_call : (text : List ℕ) (a b : Call) → ReadsLine text a → ReadsLine text b → a ≡ b
+one_call : (text : List ℕ) (a b : Call) → IsLineOfCall text a → IsLineOfCall text b → a ≡ b
 one_call text a b (words, e, call) other = same_call words a b call
     (the_call text words b (parts_of_call text words a e call) other)
 
@@ -243,13 +243,13 @@ other_word (on.Subscribed topic name true) = refl
 other_word (on.Subscribed topic name false) = refl
 other_word call = refl
 
-pub stop_is_no_call : (call : Call) → ReadsLine (codes "stop") call → ⊥
+pub stop_is_no_call : (call : Call) → IsLineOfCall (codes "stop") call → ⊥
 stop_is_no_call call reads =
     let (arguments, is, told) = the_call (codes "stop") (codes "stop" ∷ []) call (refl, (λ none. cc), refl) reads in
     let word : codes "stop" ≡ call_word call = ap (λ (ws : List (List ℕ)). get_or ws 0 []) is in
     absurd (let no : true ≡ false = ap (λ w. bytes_eq w (codes "stop")) word ∙ other_word call in cc)
 
-pub no_line : (text : List ℕ) → ((call : Call) → ReadsLine text call → ⊥) → (text ≡ codes "stop" → ⊥) → (line : Line)
+pub no_line : (text : List ℕ) → ((call : Call) → IsLineOfCall text call → ⊥) → (text ≡ codes "stop" → ⊥) → (line : Line)
     → IsLine text line → ⊥
 no_line text calls stop (as_line.Call call) h = calls call h
 no_line text calls stop as_line.Stop h = stop h
@@ -257,7 +257,7 @@ no_line text calls stop as_line.Stop h = stop h
 pub one_line_at_most : HasOneLineAtMost
 one_line_at_most text (as_line.Call a) (as_line.Call b) one other = ap as_line.Call (one_call text a b one other)
 one_line_at_most text (as_line.Call a) as_line.Stop one other = absurd
-    (stop_is_no_call a (subst (λ t. ReadsLine t a) other one))
+    (stop_is_no_call a (subst (λ t. IsLineOfCall t a) other one))
 one_line_at_most text as_line.Stop (as_line.Call b) one other = absurd
-    (stop_is_no_call b (subst (λ t. ReadsLine t b) one other))
+    (stop_is_no_call b (subst (λ t. IsLineOfCall t b) one other))
 one_line_at_most text as_line.Stop as_line.Stop one other = refl

@@ -1,5 +1,5 @@
--- The lines of a script: which text stands for which call. A text that stands for none is a bad line. The grammar is
--- told by printing: a line has these words, and one space between.
+-- The lines of a script: which text is which call. A text that is none is a bad line. The grammar
+-- is a relation by printing: a line is these words, with one space between.
 use Rattle.std.specs.Prelude.{◌≡◌, ◌⊎◌, ℕ, ◌<◌, ◌≤◌, ◌^◌, Bool, true, false, ◌&&◌, List, [], ◌∷◌, length, IsTrue, codes}
 use Rattle.std.specs.Prelude.{decimal}
 use Rattle.relay_types.specs.Values.{Text, Seq, Seconds, is_name, is_msg_id, is_target, is_max_limit, is_body}
@@ -13,7 +13,7 @@ use Rattle.script_lines.specs.declared.call.Call.TheVariants as on
 use Rattle.script_lines.specs.declared.call.Line.{Line}
 use Rattle.script_lines.specs.declared.call.Line.TheVariants as as_line
 
--- the words behind the first one of a call
+-- the words after the first one of a call
 abbrev pub IsPut : (words : List Text) (name target : Text) (max : ℕ) (secrets : List Text) → Type 0
 IsPut words name target max secrets = (word : List ℕ) × IsSecretsWord word secrets
     × (words ≡ name ∷ target ∷ decimal max ∷ word ∷ [])
@@ -23,7 +23,7 @@ abbrev pub IsSecrets : (words : List Text) (name : Text) (secrets : List Text) �
 IsSecrets words name secrets = (word : List ℕ) × IsSecretsWord word secrets × (words ≡ name ∷ word ∷ [])
     × IsTrue (is_name name)
 
--- of a call that names an endpoint, and nothing else, and of one that names a topic too
+-- of a call that names an endpoint, and nothing else; and of one that also names a topic
 abbrev pub IsNamed : (words : List Text) (name : Text) → Type 0
 IsNamed words name = (words ≡ name ∷ []) × IsTrue (is_name name)
 
@@ -58,62 +58,63 @@ IsSpend words delivery now post = (results : List Text) × IsResult results post
 abbrev pub IsShow : (words : List Text) (name id : Text) → Type 0
 IsShow words name id = (words ≡ name ∷ id ∷ []) × IsTrue (is_name name && is_msg_id id)
 
--- the words are behind the first one of no such call
-abbrev pub AreOfNoPut : List (List ℕ) → Type 0
-AreOfNoPut words = (name target : List ℕ) (max : ℕ) (secrets : List (List ℕ)) → ¬ IsPut words name target max secrets
+-- the words aren't the arguments of such a call
+abbrev pub AreArgumentsOfNoPut : List (List ℕ) → Type 0
+AreArgumentsOfNoPut words = (name target : List ℕ) (max : ℕ) (secrets : List (List ℕ))
+    → ¬ IsPut words name target max secrets
 
-abbrev pub AreOfNoSecrets : List (List ℕ) → Type 0
-AreOfNoSecrets words = (name : List ℕ) (secrets : List (List ℕ)) → ¬ IsSecrets words name secrets
+abbrev pub AreArgumentsOfNoSecrets : List (List ℕ) → Type 0
+AreArgumentsOfNoSecrets words = (name : List ℕ) (secrets : List (List ℕ)) → ¬ IsSecrets words name secrets
 
-abbrev pub AreOfNoSubmit : List (List ℕ) → Type 0
-AreOfNoSubmit words = (now : ℕ) (name id body : List ℕ) → ¬ IsSubmit words now name id body
+abbrev pub AreArgumentsOfNoSubmit : List (List ℕ) → Type 0
+AreArgumentsOfNoSubmit words = (now : ℕ) (name id body : List ℕ) → ¬ IsSubmit words now name id body
 
-abbrev pub AreOfNoResult : List (List ℕ) → Type 0
-AreOfNoResult words = (post : PostResult) → ¬ IsResult words post
+abbrev pub AreWordsOfNoResult : List (List ℕ) → Type 0
+AreWordsOfNoResult words = (post : PostResult) → ¬ IsResult words post
 
-abbrev pub AreOfNoSpend : List (List ℕ) → Type 0
-AreOfNoSpend words = (delivery now : ℕ) (post : PostResult) → ¬ IsSpend words delivery now post
+abbrev pub AreArgumentsOfNoSpend : List (List ℕ) → Type 0
+AreArgumentsOfNoSpend words = (delivery now : ℕ) (post : PostResult) → ¬ IsSpend words delivery now post
 
-abbrev pub AreOfNoName : List (List ℕ) → Type 0
-AreOfNoName words = (name : List ℕ) → ¬ IsNamed words name
+abbrev pub AreArgumentsOfNoName : List (List ℕ) → Type 0
+AreArgumentsOfNoName words = (name : List ℕ) → ¬ IsNamed words name
 
-abbrev pub AreOfNoPair : List (List ℕ) → Type 0
-AreOfNoPair words = (topic name : List ℕ) → ¬ IsSubscribed words topic name
+abbrev pub AreArgumentsOfNoTopic : List (List ℕ) → Type 0
+AreArgumentsOfNoTopic words = (topic name : List ℕ) → ¬ IsSubscribed words topic name
 
-abbrev pub AreOfNoEvent : List (List ℕ) → Type 0
-AreOfNoEvent words = (name id : List ℕ) → ¬ IsShow words name id
+abbrev pub AreArgumentsOfNoEvent : List (List ℕ) → Type 0
+AreArgumentsOfNoEvent words = (name id : List ℕ) → ¬ IsShow words name id
 
--- the words behind the first one of these calls
-abbrev pub AreOfPut : List (List ℕ) → Call → Type 0
-AreOfPut words (on.Put name target max secrets) = IsPut words name target max secrets
-AreOfPut words call = ⊥
+-- the words are the arguments of such a call
+abbrev pub AreArgumentsOfPut : List (List ℕ) → Call → Type 0
+AreArgumentsOfPut words (on.Put name target max secrets) = IsPut words name target max secrets
+AreArgumentsOfPut words call = ⊥
 
-abbrev pub AreOfSecrets : List (List ℕ) → Call → Type 0
-AreOfSecrets words (on.Secrets name secrets) = IsSecrets words name secrets
-AreOfSecrets words call = ⊥
+abbrev pub AreArgumentsOfSecrets : List (List ℕ) → Call → Type 0
+AreArgumentsOfSecrets words (on.Secrets name secrets) = IsSecrets words name secrets
+AreArgumentsOfSecrets words call = ⊥
 
-abbrev pub AreOfSubscribed : List (List ℕ) → (flag : Bool) → Call → Type 0
-AreOfSubscribed words flag (on.Subscribed topic name set) = (set ≡ flag) × IsSubscribed words topic name
-AreOfSubscribed words flag call = ⊥
+abbrev pub AreArgumentsOfSubscribed : List (List ℕ) → (flag : Bool) → Call → Type 0
+AreArgumentsOfSubscribed words flag (on.Subscribed topic name set) = (set ≡ flag) × IsSubscribed words topic name
+AreArgumentsOfSubscribed words flag call = ⊥
 
-abbrev pub AreOfSubmit : List (List ℕ) → Call → Type 0
-AreOfSubmit words (on.Submit now name id body) = IsSubmit words now name id body
-AreOfSubmit words call = ⊥
+abbrev pub AreArgumentsOfSubmit : List (List ℕ) → Call → Type 0
+AreArgumentsOfSubmit words (on.Submit now name id body) = IsSubmit words now name id body
+AreArgumentsOfSubmit words call = ⊥
 
-abbrev pub AreOfPublish : List (List ℕ) → Call → Type 0
-AreOfPublish words (on.Publish now topic id body) = IsSubmit words now topic id body
-AreOfPublish words call = ⊥
+abbrev pub AreArgumentsOfPublish : List (List ℕ) → Call → Type 0
+AreArgumentsOfPublish words (on.Publish now topic id body) = IsSubmit words now topic id body
+AreArgumentsOfPublish words call = ⊥
 
-abbrev pub AreOfSpend : List (List ℕ) → Call → Type 0
-AreOfSpend words (on.Spend delivery now post) = IsSpend words delivery now post
-AreOfSpend words call = ⊥
+abbrev pub AreArgumentsOfSpend : List (List ℕ) → Call → Type 0
+AreArgumentsOfSpend words (on.Spend delivery now post) = IsSpend words delivery now post
+AreArgumentsOfSpend words call = ⊥
 
-abbrev pub AreOfShow : List (List ℕ) → Call → Type 0
-AreOfShow words (on.ShowEndpoint name) = IsNamed words name
-AreOfShow words (on.Show name id) = IsShow words name id
-AreOfShow words call = ⊥
+abbrev pub AreArgumentsOfShow : List (List ℕ) → Call → Type 0
+AreArgumentsOfShow words (on.ShowEndpoint name) = IsNamed words name
+AreArgumentsOfShow words (on.Show name id) = IsShow words name id
+AreArgumentsOfShow words call = ⊥
 
--- the first word of a call, and what is told by the words behind it
+-- the first word of a call, and its arguments by the words after it
 abbrev pub call_word : Call → List ℕ
 call_word (on.Put name target max secrets) = codes "put"
 call_word (on.Secrets name secrets) = codes "secrets"
@@ -156,25 +157,25 @@ AreArguments words (on.Limits name) = IsNamed words name
 AreArguments words (on.ShowEndpoint name) = IsNamed words name
 AreArguments words (on.Show name id) = IsShow words name id
 
--- Memory is taken for a target and for secrets once all words are read, and for a body once the words before it are.
--- Other words lack none.
-abbrev pub MayLackForPut : List (List ℕ) → Type 0
-MayLackForPut words = (name : List ℕ) × (target : List ℕ) × (max : ℕ) × (secrets : List (List ℕ))
+-- A target and secrets are allocated once all words are read, and a body once the words before it
+-- are. Other words aren't allocated.
+abbrev pub MayAllocateForPut : List (List ℕ) → Type 0
+MayAllocateForPut words = (name : List ℕ) × (target : List ℕ) × (max : ℕ) × (secrets : List (List ℕ))
     × IsPut words name target max secrets
 
-abbrev pub MayLackForSecrets : List (List ℕ) → Type 0
-MayLackForSecrets words = (name : List ℕ) × (secrets : List (List ℕ)) × IsSecrets words name secrets
+abbrev pub MayAllocateForSecrets : List (List ℕ) → Type 0
+MayAllocateForSecrets words = (name : List ℕ) × (secrets : List (List ℕ)) × IsSecrets words name secrets
 
-abbrev pub MayLackForSubmit : List (List ℕ) → Type 0
-MayLackForSubmit words = (now : ℕ) × (name id body : List ℕ) × (words ≡ decimal now ∷ name ∷ id ∷ body ∷ [])
+abbrev pub MayAllocateForSubmit : List (List ℕ) → Type 0
+MayAllocateForSubmit words = (now : ℕ) × (name id body : List ℕ) × (words ≡ decimal now ∷ name ∷ id ∷ body ∷ [])
     × IsTrue (is_moment now && (is_name name && is_msg_id id))
 
--- a first word, and those behind it
-abbrev pub MayLack : List ℕ → List (List ℕ) → Type 0
-MayLack word words =
-    ((word ≡ codes "put") × MayLackForPut words)
-    ⊎ (((word ≡ codes "secrets") × MayLackForSecrets words)
-    ⊎ (((word ≡ codes "submit") ⊎ (word ≡ codes "publish")) × MayLackForSubmit words))
+-- a first word, and those after it
+abbrev pub MayAllocate : List ℕ → List (List ℕ) → Type 0
+MayAllocate word words =
+    ((word ≡ codes "put") × MayAllocateForPut words)
+    ⊎ (((word ≡ codes "secrets") × MayAllocateForSecrets words)
+    ⊎ (((word ≡ codes "submit") ⊎ (word ≡ codes "publish")) × MayAllocateForSubmit words))
 
 -- the call has a target or a body, which several calls can share
 abbrev pub HasShared : Call → Type 0
@@ -191,15 +192,15 @@ IsCall words call = (arguments : List (List ℕ)) × (words ≡ call_word call �
 abbrev pub HasFewWords : List ℕ → Type 0
 HasFewWords text = (words : List (List ℕ)) × HasParts 32 text words × (length words ≤ 5)
 
--- a text stands for the call whose words it has
-abbrev pub ReadsLine : List ℕ → Call → Type 0
-ReadsLine text call = (words : List (List ℕ)) × (text ≡ line words) × IsCall words call
+-- a text is the call whose words it has
+abbrev pub IsLineOfCall : List ℕ → Call → Type 0
+IsLineOfCall text call = (words : List (List ℕ)) × (text ≡ line words) × IsCall words call
 
--- the text stands for this line
+-- the text is this line
 abbrev pub IsLine : List ℕ → Line → Type 0
-IsLine text (as_line.Call call) = ReadsLine text call
+IsLine text (as_line.Call call) = IsLineOfCall text call
 IsLine text as_line.Stop = text ≡ codes "stop"
 
--- a law: one text stands for one line at most
+-- a law: a text is at most one line
 abbrev pub HasOneLineAtMost : Type 0
 HasOneLineAtMost = (text : List ℕ) (one other : Line) → IsLine text one → IsLine text other → one ≡ other

@@ -1,4 +1,4 @@
-//! The calls of the core, and the line that isn't one.
+//! The calls of the core, and the line that isn't a call.
 ghost use Rattle.std.specs.Prelude.{◌≡◌, IfOk, IsErr};
 ghost use Rattle.script_lines.specs.Script.{HasShared};
 
@@ -62,13 +62,13 @@ pub enum Call {
     Settle,
     /// Takes the batch back.
     Unseal,
-    /// Takes what is out, or nothing, from a committer that gives up.
+    /// Halts the desk, and takes what is out, or nothing, from its committer.
     Halt,
     /// The next attempt that may begin.
     Claim {
         now: Moment,
     },
-    /// What came of the post of the delivery's attempt.
+    /// The result of the post of the delivery's attempt.
     Spend {
         delivery: u64,
         now: Moment,

@@ -1,4 +1,5 @@
-//! The lines of a script: the calls of the core and the stop, how each is read, and how its reply is printed.
+//! The lines of a script: the calls of the core and the stop, how each is read, and how its reply
+//! is printed.
 #![tactic(auto)]
 
 mod call;

@@ -1,4 +1,4 @@
-//! What a call answers, and how a script prints it.
+//! The reply to a call, and how a script prints it.
 ghost use Rattle.std.specs.Prelude.{◌≡◌, Some};
 ghost use Rattle.std.specs.Str.{IsAscii};
 ghost use Rattle.script_lines.specs.Replies.{fault_text, state_text, told_text, flag_text, spend_text, reply_text};
@@ -39,7 +39,7 @@ pub enum Told {
     Unknown,
 }
 
-/// What a call answered.
+/// The reply to a call.
 #[derive(Drop)]
 pub enum Reply {
     Staged {
@@ -75,7 +75,8 @@ pub enum Reply {
         due: Option<u64>,
         attempts: u64,
     },
-    /// An attempt begins: its delivery, and the attempts of the endpoint that are under way, itself among them.
+    /// An attempt begins: its delivery, and the attempts of the endpoint that are under way, itself
+    /// among them.
     Permit {
         delivery: u64,
         endpoint: Name,
@@ -85,7 +86,7 @@ pub enum Reply {
         inflight: u32,
     },
     NothingDue,
-    /// An attempt is over. `staged` is the number of its outcome, where one waits.
+    /// An attempt is over. `staged` is the number of its outcome, if one waits.
     Spent {
         spend: Spend,
         limit: u32,

@@ -1,16 +1,18 @@
-//! The lines of a script: the calls that they stand for.
+//! The lines of a script, and which calls they are.
 ghost use Rattle.std.specs.Prelude.{◌≡◌, ℕ, List, [], ◌∷◌, ◌<◌, ◌^◌, ◌&&◌, false, IsTrue, IfErr, IfOk, IsErr, codes};
 ghost use Rattle.std.specs.Prelude.{decimal};
 ghost use Rattle.relay_types.specs.Values.{is_between, is_moment, is_msg_id, is_name, is_target};
 ghost use Rattle.text_lines.specs.Parts.{texts};
-ghost use Rattle.script_lines.specs.Script.{ReadsLine, IsLine, HasOneLineAtMost, HasFewWords, IsCall, MayLack};
+ghost use Rattle.script_lines.specs.Script.{IsLineOfCall, IsLine, HasOneLineAtMost, HasFewWords, IsCall, MayAllocate};
 ghost use Rattle.script_lines.specs.Script.{call_word, AreArguments};
-ghost use Rattle.script_lines.specs.Script.{MayLackForPut, MayLackForSecrets, MayLackForSubmit};
-ghost use Rattle.script_lines.specs.Script.{AreOfPut, AreOfSecrets, AreOfSubscribed, AreOfSubmit, AreOfPublish};
-ghost use Rattle.script_lines.specs.Script.{AreOfSpend};
-ghost use Rattle.script_lines.specs.Script.{AreOfShow, IsNamed, IsSubmit, IsTold, IsMoment, IsResult};
-ghost use Rattle.script_lines.specs.Script.{AreOfNoPut, AreOfNoSecrets, AreOfNoSubmit, AreOfNoSpend, AreOfNoResult};
-ghost use Rattle.script_lines.specs.Script.{AreOfNoName, AreOfNoPair, AreOfNoEvent};
+ghost use Rattle.script_lines.specs.Script.{MayAllocateForPut, MayAllocateForSecrets, MayAllocateForSubmit};
+ghost use Rattle.script_lines.specs.Script.{AreArgumentsOfPut, AreArgumentsOfSecrets, AreArgumentsOfSubscribed};
+ghost use Rattle.script_lines.specs.Script.{AreArgumentsOfSubmit, AreArgumentsOfPublish};
+ghost use Rattle.script_lines.specs.Script.{AreArgumentsOfSpend};
+ghost use Rattle.script_lines.specs.Script.{AreArgumentsOfShow, IsNamed, IsSubmit, IsTold, IsMoment, IsResult};
+ghost use Rattle.script_lines.specs.Script.{AreArgumentsOfNoPut, AreArgumentsOfNoSecrets, AreArgumentsOfNoSubmit};
+ghost use Rattle.script_lines.specs.Script.{AreArgumentsOfNoSpend, AreWordsOfNoResult};
+ghost use Rattle.script_lines.specs.Script.{AreArgumentsOfNoName, AreArgumentsOfNoTopic, AreArgumentsOfNoEvent};
 ghost use Rattle.script_lines.specs.declared.call.Call.{Call};
 ghost use Rattle.script_lines.specs.declared.call.Line.{Line};
 
@@ -26,7 +28,7 @@ use text_lines::{
 // The most words of a call.
 const MAX_WORDS: usize = 5;
 
-/// What a line stands for. A stop takes no memory.
+/// The call or stop that a line is. A stop doesn't allocate.
 pub fn read_line(alloc: Global, line: &[u8]) -> Result<Line, WordFault>
     ensures stands { IfOk result (λ read. IsLine line.now read) }
     ensures stop { line.now ≡ codes "stop" → result ≡ Ok Line.Stop }
@@ -39,15 +41,15 @@ pub fn read_line(alloc: Global, line: &[u8]) -> Result<Line, WordFault>
     Ok(Line::Call(read_call(alloc, line)?))
 }
 
-/// A law of scripts: a line stands for one thing at most.
+/// A law of scripts: a text is at most one line.
 pub fn one_line_at_most()
     ensures { HasOneLineAtMost }
 {}
 
-/// The call that a line stands for. Memory is taken only for a line of few words.
+/// The call that a line is. Only a line of few words allocates.
 pub fn read_call(alloc: Global, line: &[u8]) -> Result<Call, WordFault>
-    ensures stands { IfOk result (λ call. ReadsLine line.now call) }
-    ensures bad { result ≡ Err WordFault.Bad → (call : Call) → ¬ ReadsLine line.now call }
+    ensures stands { IfOk result (λ call. IsLineOfCall line.now call) }
+    ensures bad { result ≡ Err WordFault.Bad → (call : Call) → ¬ IsLineOfCall line.now call }
     ensures lacked { result ≡ Err WordFault.OutOfMemory → HasFewWords line.now }
 {
     if count_words(line) > MAX_WORDS {
@@ -62,7 +64,7 @@ fn read_words(alloc: Global, words: &[&[u8]]) -> Result<Call, WordFault>
     ensures stands { IfOk result (λ call. IsCall (texts words.now) call) }
     ensures bad { result ≡ Err WordFault.Bad → (call : Call) → ¬ IsCall (texts words.now) call }
     ensures lacked { result ≡ Err WordFault.OutOfMemory
-        → (word : List ℕ) × (others : List (List ℕ)) × (texts words.now ≡ word ∷ others) × MayLack word others }
+        → (word : List ℕ) × (others : List (List ℕ)) × (texts words.now ≡ word ∷ others) × MayAllocate word others }
 {
     match words.split_first() {
         Some((word, arguments)) => read_worded(alloc, word, arguments),
@@ -70,12 +72,12 @@ fn read_words(alloc: Global, words: &[&[u8]]) -> Result<Call, WordFault>
     }
 }
 
-// The call of this word and the words behind it.
+// The call of this word and the words after it.
 fn read_worded(alloc: Global, word: &[u8], arguments: &[&[u8]]) -> Result<Call, WordFault>
     ensures stands { IfOk result (λ call. (word.now ≡ call_word call) × AreArguments (texts arguments.now) call) }
     ensures bad { result ≡ Err WordFault.Bad
         → (call : Call) → word.now ≡ call_word call → ¬ AreArguments (texts arguments.now) call }
-    ensures lacked { result ≡ Err WordFault.OutOfMemory → MayLack word.now (texts arguments.now) }
+    ensures lacked { result ≡ Err WordFault.OutOfMemory → MayAllocate word.now (texts arguments.now) }
 {
     if is_word(word, "put") {
         read_put(alloc, arguments)
@@ -134,7 +136,7 @@ fn read_worded(alloc: Global, word: &[u8], arguments: &[&[u8]]) -> Result<Call, 
     }
 }
 
-// The call of a word behind which none stands.
+// The call of a word after which there is none.
 fn read_alone(arguments: &[&[u8]], call: Call) -> Result<Call, WordFault>
     ensures stands { IfOk result (λ same. (same ≡ call) × (texts arguments.now ≡ [])) }
     ensures bad { IsErr result → texts arguments.now ≡ [] → ⊥ }
@@ -148,9 +150,9 @@ fn read_alone(arguments: &[&[u8]], call: Call) -> Result<Call, WordFault>
 }
 
 fn read_put(alloc: Global, arguments: &[&[u8]]) -> Result<Call, WordFault>
-    ensures stands { IfOk result (λ call. AreOfPut (texts arguments.now) call) }
-    ensures bad { result ≡ Err WordFault.Bad → AreOfNoPut (texts arguments.now) }
-    ensures lacked { result ≡ Err WordFault.OutOfMemory → MayLackForPut (texts arguments.now) }
+    ensures stands { IfOk result (λ call. AreArgumentsOfPut (texts arguments.now) call) }
+    ensures bad { result ≡ Err WordFault.Bad → AreArgumentsOfNoPut (texts arguments.now) }
+    ensures lacked { result ≡ Err WordFault.OutOfMemory → MayAllocateForPut (texts arguments.now) }
 {
     match arguments {
         [name, url, max, secrets] => read_put_words(alloc, name, url, max, secrets),
@@ -165,10 +167,10 @@ fn read_put_words(
     max: &[u8],
     secrets: &[u8],
 ) -> Result<Call, WordFault>
-    ensures stands { IfOk result (λ call. AreOfPut (name.now ∷ url.now ∷ max.now ∷ secrets.now ∷ []) call) }
-    ensures bad { result ≡ Err WordFault.Bad → AreOfNoPut (name.now ∷ url.now ∷ max.now ∷ secrets.now ∷ []) }
+    ensures stands { IfOk result (λ call. AreArgumentsOfPut (name.now ∷ url.now ∷ max.now ∷ secrets.now ∷ []) call) }
+    ensures bad { result ≡ Err WordFault.Bad → AreArgumentsOfNoPut (name.now ∷ url.now ∷ max.now ∷ secrets.now ∷ []) }
     ensures lacked { result ≡ Err WordFault.OutOfMemory
-        → MayLackForPut (name.now ∷ url.now ∷ max.now ∷ secrets.now ∷ []) }
+        → MayAllocateForPut (name.now ∷ url.now ∷ max.now ∷ secrets.now ∷ []) }
 {
     let name = Name::read(name)?;
     let max = read_max(max)?;
@@ -197,9 +199,9 @@ fn read_target(alloc: Global, url: &[u8]) -> Result<Target, WordFault>
 }
 
 fn read_new_secrets(alloc: Global, arguments: &[&[u8]]) -> Result<Call, WordFault>
-    ensures stands { IfOk result (λ call. AreOfSecrets (texts arguments.now) call) }
-    ensures bad { result ≡ Err WordFault.Bad → AreOfNoSecrets (texts arguments.now) }
-    ensures lacked { result ≡ Err WordFault.OutOfMemory → MayLackForSecrets (texts arguments.now) }
+    ensures stands { IfOk result (λ call. AreArgumentsOfSecrets (texts arguments.now) call) }
+    ensures bad { result ≡ Err WordFault.Bad → AreArgumentsOfNoSecrets (texts arguments.now) }
+    ensures lacked { result ≡ Err WordFault.OutOfMemory → MayAllocateForSecrets (texts arguments.now) }
 {
     match arguments {
         [name, secrets] => read_new_secrets_words(alloc, name, secrets),
@@ -208,9 +210,9 @@ fn read_new_secrets(alloc: Global, arguments: &[&[u8]]) -> Result<Call, WordFaul
 }
 
 fn read_new_secrets_words(alloc: Global, name: &[u8], secrets: &[u8]) -> Result<Call, WordFault>
-    ensures stands { IfOk result (λ call. AreOfSecrets (name.now ∷ secrets.now ∷ []) call) }
-    ensures bad { result ≡ Err WordFault.Bad → AreOfNoSecrets (name.now ∷ secrets.now ∷ []) }
-    ensures lacked { result ≡ Err WordFault.OutOfMemory → MayLackForSecrets (name.now ∷ secrets.now ∷ []) }
+    ensures stands { IfOk result (λ call. AreArgumentsOfSecrets (name.now ∷ secrets.now ∷ []) call) }
+    ensures bad { result ≡ Err WordFault.Bad → AreArgumentsOfNoSecrets (name.now ∷ secrets.now ∷ []) }
+    ensures lacked { result ≡ Err WordFault.OutOfMemory → MayAllocateForSecrets (name.now ∷ secrets.now ∷ []) }
 {
     Ok(Call::Secrets {
         name: Name::read(name)?,
@@ -221,7 +223,7 @@ fn read_new_secrets_words(alloc: Global, name: &[u8], secrets: &[u8]) -> Result<
 // The one argument of a call that names an endpoint.
 fn read_name(arguments: &[&[u8]]) -> Result<Name, WordFault>
     ensures stands { IfOk result (λ name. IsNamed (texts arguments.now) name) }
-    ensures bad { IsErr result → AreOfNoName (texts arguments.now) }
+    ensures bad { IsErr result → AreArgumentsOfNoName (texts arguments.now) }
     ensures fault { IfErr result (λ fault. fault ≡ WordFault.Bad) }
 {
     match arguments {
@@ -232,8 +234,8 @@ fn read_name(arguments: &[&[u8]]) -> Result<Name, WordFault>
 
 // The endpoint that is subscribed to a topic, or not.
 fn read_subscribed(arguments: &[&[u8]], flag: bool) -> Result<Call, WordFault>
-    ensures stands { IfOk result (λ call. AreOfSubscribed (texts arguments.now) flag call) }
-    ensures bad { IsErr result → AreOfNoPair (texts arguments.now) }
+    ensures stands { IfOk result (λ call. AreArgumentsOfSubscribed (texts arguments.now) flag call) }
+    ensures bad { IsErr result → AreArgumentsOfNoTopic (texts arguments.now) }
     ensures fault { IfErr result (λ fault. fault ≡ WordFault.Bad) }
 {
     match arguments {
@@ -259,9 +261,9 @@ fn read_seq(arguments: &[&[u8]]) -> Result<u64, WordFault>
 }
 
 fn read_submit(alloc: Global, arguments: &[&[u8]]) -> Result<Call, WordFault>
-    ensures stands { IfOk result (λ call. AreOfSubmit (texts arguments.now) call) }
-    ensures bad { result ≡ Err WordFault.Bad → AreOfNoSubmit (texts arguments.now) }
-    ensures lacked { result ≡ Err WordFault.OutOfMemory → MayLackForSubmit (texts arguments.now) }
+    ensures stands { IfOk result (λ call. AreArgumentsOfSubmit (texts arguments.now) call) }
+    ensures bad { result ≡ Err WordFault.Bad → AreArgumentsOfNoSubmit (texts arguments.now) }
+    ensures lacked { result ≡ Err WordFault.OutOfMemory → MayAllocateForSubmit (texts arguments.now) }
 {
     let Event {
         now,
@@ -278,9 +280,9 @@ fn read_submit(alloc: Global, arguments: &[&[u8]]) -> Result<Call, WordFault>
 }
 
 fn read_publish(alloc: Global, arguments: &[&[u8]]) -> Result<Call, WordFault>
-    ensures stands { IfOk result (λ call. AreOfPublish (texts arguments.now) call) }
-    ensures bad { result ≡ Err WordFault.Bad → AreOfNoSubmit (texts arguments.now) }
-    ensures lacked { result ≡ Err WordFault.OutOfMemory → MayLackForSubmit (texts arguments.now) }
+    ensures stands { IfOk result (λ call. AreArgumentsOfPublish (texts arguments.now) call) }
+    ensures bad { result ≡ Err WordFault.Bad → AreArgumentsOfNoSubmit (texts arguments.now) }
+    ensures lacked { result ≡ Err WordFault.OutOfMemory → MayAllocateForSubmit (texts arguments.now) }
 {
     let Event {
         now,
@@ -307,8 +309,8 @@ struct Event {
 fn read_event(alloc: Global, arguments: &[&[u8]]) -> Result<Event, WordFault>
     ensures stands { IfOk result (λ event.
         IsSubmit (texts arguments.now) event.now event.name event.id event.body) }
-    ensures bad { result ≡ Err WordFault.Bad → AreOfNoSubmit (texts arguments.now) }
-    ensures lacked { result ≡ Err WordFault.OutOfMemory → MayLackForSubmit (texts arguments.now) }
+    ensures bad { result ≡ Err WordFault.Bad → AreArgumentsOfNoSubmit (texts arguments.now) }
+    ensures lacked { result ≡ Err WordFault.OutOfMemory → MayAllocateForSubmit (texts arguments.now) }
 {
     match arguments {
         [now, name, id, body] => read_event_words(alloc, now, name, id, body),
@@ -325,7 +327,7 @@ fn read_event_words(
 ) -> Result<Event, WordFault>
     ensures stands { IfOk result (λ event.
         IsSubmit (now.now ∷ name.now ∷ id.now ∷ body.now ∷ []) event.now event.name event.id event.body) }
-    ensures bad { result ≡ Err WordFault.Bad → AreOfNoSubmit (now.now ∷ name.now ∷ id.now ∷ body.now ∷ []) }
+    ensures bad { result ≡ Err WordFault.Bad → AreArgumentsOfNoSubmit (now.now ∷ name.now ∷ id.now ∷ body.now ∷ []) }
     ensures lacked { result ≡ Err WordFault.OutOfMemory → (moment : ℕ) × (now.now ≡ decimal moment)
         × IsTrue (is_moment moment && (is_name name.now && is_msg_id id.now)) }
 {
@@ -350,8 +352,8 @@ fn read_one_moment(arguments: &[&[u8]]) -> Result<Moment, WordFault>
 }
 
 fn read_spend(arguments: &[&[u8]]) -> Result<Call, WordFault>
-    ensures stands { IfOk result (λ call. AreOfSpend (texts arguments.now) call) }
-    ensures bad { IsErr result → AreOfNoSpend (texts arguments.now) }
+    ensures stands { IfOk result (λ call. AreArgumentsOfSpend (texts arguments.now) call) }
+    ensures bad { IsErr result → AreArgumentsOfNoSpend (texts arguments.now) }
     ensures fault { IfErr result (λ fault. fault ≡ WordFault.Bad) }
 {
     match arguments {
@@ -361,8 +363,8 @@ fn read_spend(arguments: &[&[u8]]) -> Result<Call, WordFault>
 }
 
 fn read_spend_words(delivery: &[u8], now: &[u8], post: &[&[u8]]) -> Result<Call, WordFault>
-    ensures stands { IfOk result (λ call. AreOfSpend (delivery.now ∷ now.now ∷ texts post.now) call) }
-    ensures bad { IsErr result → AreOfNoSpend (delivery.now ∷ now.now ∷ texts post.now) }
+    ensures stands { IfOk result (λ call. AreArgumentsOfSpend (delivery.now ∷ now.now ∷ texts post.now) call) }
+    ensures bad { IsErr result → AreArgumentsOfNoSpend (delivery.now ∷ now.now ∷ texts post.now) }
     ensures fault { IfErr result (λ fault. fault ≡ WordFault.Bad) }
 {
     Ok(Call::Spend {
@@ -372,10 +374,10 @@ fn read_spend_words(delivery: &[u8], now: &[u8], post: &[&[u8]]) -> Result<Call,
     })
 }
 
-// What came of a post.
+// The result of a post.
 fn read_post(words: &[&[u8]]) -> Result<PostResult, WordFault>
     ensures stands { IfOk result (λ post. IsResult (texts words.now) post) }
-    ensures bad { IsErr result → AreOfNoResult (texts words.now) }
+    ensures bad { IsErr result → AreWordsOfNoResult (texts words.now) }
     ensures fault { IfErr result (λ fault. fault ≡ WordFault.Bad) }
 {
     match words {
@@ -387,7 +389,7 @@ fn read_post(words: &[&[u8]]) -> Result<PostResult, WordFault>
 
 fn read_unmeasured(word: &[u8]) -> Result<PostResult, WordFault>
     ensures stands { IfOk result (λ post. IsResult (word.now ∷ []) post) }
-    ensures bad { IsErr result → AreOfNoResult (word.now ∷ []) }
+    ensures bad { IsErr result → AreWordsOfNoResult (word.now ∷ []) }
     ensures fault { IfErr result (λ fault. fault ≡ WordFault.Bad) }
 {
     if is_word(word, "unreached") {
@@ -401,7 +403,7 @@ fn read_unmeasured(word: &[u8]) -> Result<PostResult, WordFault>
 
 fn read_measured(word: &[u8], rtt: &[u8]) -> Result<PostResult, WordFault>
     ensures stands { IfOk result (λ post. IsResult (word.now ∷ rtt.now ∷ []) post) }
-    ensures bad { IsErr result → AreOfNoResult (word.now ∷ rtt.now ∷ []) }
+    ensures bad { IsErr result → AreWordsOfNoResult (word.now ∷ rtt.now ∷ []) }
     ensures fault { IfErr result (λ fault. fault ≡ WordFault.Bad) }
 {
     let rtt = read_round_trip(rtt)?;
@@ -440,9 +442,9 @@ fn read_status(word: &[u8]) -> Result<Status, WordFault>
 
 // The endpoint or the event that is shown.
 fn read_show(arguments: &[&[u8]]) -> Result<Call, WordFault>
-    ensures stands { IfOk result (λ call. AreOfShow (texts arguments.now) call) }
-    ensures endpoint { IsErr result → AreOfNoName (texts arguments.now) }
-    ensures bad { IsErr result → AreOfNoEvent (texts arguments.now) }
+    ensures stands { IfOk result (λ call. AreArgumentsOfShow (texts arguments.now) call) }
+    ensures endpoint { IsErr result → AreArgumentsOfNoName (texts arguments.now) }
+    ensures bad { IsErr result → AreArgumentsOfNoEvent (texts arguments.now) }
     ensures fault { IfErr result (λ fault. fault ≡ WordFault.Bad) }
 {
     match arguments {
@@ -454,8 +456,8 @@ fn read_show(arguments: &[&[u8]]) -> Result<Call, WordFault>
 }
 
 fn read_show_words(name: &[u8], id: &[u8]) -> Result<Call, WordFault>
-    ensures stands { IfOk result (λ call. AreOfShow (name.now ∷ id.now ∷ []) call) }
-    ensures bad { IsErr result → AreOfNoEvent (name.now ∷ id.now ∷ []) }
+    ensures stands { IfOk result (λ call. AreArgumentsOfShow (name.now ∷ id.now ∷ []) call) }
+    ensures bad { IsErr result → AreArgumentsOfNoEvent (name.now ∷ id.now ∷ []) }
     ensures fault { IfErr result (λ fault. fault ≡ WordFault.Bad) }
 {
     Ok(Call::Show {

@@ -1,4 +1,4 @@
-//! The numbers that one call gave.
+//! The numbers of the records of one call.
 ghost use Rattle.std.specs.Prelude.{◌≡◌, Some};
 ghost use Rattle.script_lines.specs.Replies.{numbers_text};
 
@@ -20,7 +20,7 @@ impl Model for Seqs {
 }
 
 impl Seqs {
-    /// It takes no memory.
+    /// It doesn't allocate.
     pub fn of(numbers: Vec<u64>) -> Seqs
         ensures { result ≡ numbers.items }
     {

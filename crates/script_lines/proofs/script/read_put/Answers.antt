@@ -1,5 +1,5 @@
 use Rattle.std.proofs.Common.{arith, List, ℕ, subst, sym}
-use Rattle.script_lines.specs.Script.{IsPut, MayLackForPut}
+use Rattle.script_lines.specs.Script.{IsPut, MayAllocateForPut}
 use borrow.Author.Tests.{ltb-true, ltb-false}
 use Rattle.script_lines.proofs.CallLaws.{four_texts, length-IsPut}
 use Rattle.script_lines.proofs.script.read_put.Goals as goal
@@ -20,5 +20,5 @@ returns-in-len4-clause-bad c = λ e of to most by h.
     (subst (λ (words : List (List ℕ)). IsPut words of to most by) (four_texts c.args.arguments.now _ (omega arith)) h)
 
 pub returns-in-len4-clause-lacked : goal.returns-in-len4-clause-lacked
-returns-in-len4-clause-lacked c = λ e. subst MayLackForPut (sym (four_texts c.args.arguments.now _ (omega arith)))
+returns-in-len4-clause-lacked c = λ e. subst MayAllocateForPut (sym (four_texts c.args.arguments.now _ (omega arith)))
     (c.read_put_words.ensures.lacked e)
