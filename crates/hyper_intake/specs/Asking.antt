@@ -11,7 +11,7 @@ use Rattle.http_body_util.specs.declared.limited.LimitedError.{LimitedError}
 use Rattle.http_body_util.specs.declared.limited.LimitedError.TheVariants.{LengthLimit, Body}
 use Rattle.delivery.specs.Logs.{ChangeValue}
 use Rattle.intake_shed.specs.Acks.{AckValue, PublishAckValue}
-use Rattle.intake_shed.specs.Answers.{AnswersAsk, OrLacksMemory}
+use Rattle.intake_shed.specs.Answers.{AnswersAsk, OrOutOfMemory}
 use Rattle.intake_shed.specs.Requests.{IsRefusal}
 use Rattle.intake_shed.specs.declared.ask.Ask.{Ask}
 use Rattle.intake_shed.specs.declared.ask.AskBody.{AskBody}
@@ -31,7 +31,7 @@ pub record IsShown (head : Parts) (sent : AskBody) (ask : Ask) : Type 0 where
 -- The reply is that to what is asked, where an event without an id is given one that was made for it, or memory is
 -- lacking.
 abbrev pub RepliesTo : Parts → AskBody → Reply → Type 0
-RepliesTo head body reply = OrLacksMemory ((ask : Ask) × (fresh : Text) × (seen : ℕ) × (given : Option AckValue)
+RepliesTo head body reply = OrOutOfMemory ((ask : Ask) × (fresh : Text) × (seen : ℕ) × (given : Option AckValue)
     × (published : Option PublishAckValue) × (confirmed : Option ChangeValue) × IsShown head body ask × IsMadeId fresh
     × (IsRefusal ask reply ⊎ AnswersAsk ask fresh seen reply given published confirmed)) reply
 
@@ -48,4 +48,4 @@ abbrev pub IsResponseTo : Parts → Result Collected (LimitedError Error) → Re
 IsResponseTo head gathered response =
     ((is_coded head.headers ≡ true) × IsNotImplemented response)
     ⊎ ((is_coded head.headers ≡ false) × (reply : Reply) × Responds reply response
-    × OrLacksMemory ((body : AskBody) × IsBodyOf gathered body × RepliesTo head body reply) reply)
+    × OrOutOfMemory ((body : AskBody) × IsBodyOf gathered body × RepliesTo head body reply) reply)

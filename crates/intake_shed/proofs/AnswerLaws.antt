@@ -7,7 +7,7 @@ use Rattle.delivery.specs.Logs.{ChangeValue}
 use Rattle.intake_shed.specs.Acks.{AckValue, PublishAckValue, AreBelow, IsOfEvent, IsOfPublish}
 use Rattle.intake_shed.specs.Answers.{Answers, AcceptsEvent, AcceptsPublish, FailsBy, GivesPageAt, IsNoRefusal}
 use Rattle.intake_shed.specs.Answers.{IsPublishReply, IsEventReply}
-use Rattle.intake_shed.specs.Answers.{OrLacksMemory, may_fail, may_fail_event, may_fail_publish}
+use Rattle.intake_shed.specs.Answers.{OrOutOfMemory, may_fail, may_fail_event, may_fail_publish}
 use Rattle.intake_shed.specs.Pages.{asks_for_page}
 use Rattle.intake_shed.specs.Replies.{ask_reply, out_of_memory}
 use Rattle.intake_shed.specs.Requests.{IsReadAs, IsRefusedWith}
@@ -81,13 +81,13 @@ same_reply a b e = cc
 pub answers_what : (read what : Asked) (seen : ℕ) (reply : Reply) (given : Option AckValue)
     (published : Option PublishAckValue)
     (confirmed : Option ChangeValue) → IsReadAs (Ok read) what → Answers read seen reply given published confirmed
-    → OrLacksMemory (Answers what seen reply given published confirmed) reply
+    → OrOutOfMemory (Answers what seen reply given published confirmed) reply
 answers_what read what seen reply given published confirmed (inl e) h =
     inl (subst (λ (a : Asked). Answers a seen reply given published confirmed) (same_asked read what e) h)
 answers_what read what seen reply given published confirmed (inr e) h = cc
 
 -- a request that asks for something and isn't read is out of memory
-pub not_read_lacks : (what : Asked) (P : Type 0) (reply : Reply) → IsReadAs (Err reply) what → OrLacksMemory P reply
+pub not_read_lacks : (what : Asked) (P : Type 0) (reply : Reply) → IsReadAs (Err reply) what → OrOutOfMemory P reply
 not_read_lacks what P reply (inl e) = cc
 not_read_lacks what P reply (inr e) = inr (same_reply reply out_of_memory e)
 
@@ -97,6 +97,6 @@ read_not_refused read why (inl e) = cc
 read_not_refused read why (inr e) = cc
 
 pub refused_reply : (why : RequestError) (reply : Reply) → IsRefusedWith (Err reply) why
-    → OrLacksMemory (reply ≡ ask_reply why) reply
+    → OrOutOfMemory (reply ≡ ask_reply why) reply
 refused_reply why reply (inl e) = inl (same_reply reply (ask_reply why) e)
 refused_reply why reply (inr e) = inr (same_reply reply out_of_memory e)

@@ -19,7 +19,7 @@ use Rattle.intake_shed.specs.RouteTable.{Totals, Endpoint, Event, before_query, 
 use Rattle.intake_shed.specs.Replies.{ask_reply, out_of_memory}
 use Rattle.intake_shed.specs.Requests.{IsOnRoute, AsksFor, AgreesWithBody, IsBadBody, FailsOnRoute, IsRefusedFor}
 use Rattle.intake_shed.specs.Requests.{IsNotReadFor, IsReadAs}
-use Rattle.intake_shed.specs.Requests.{IsRefusedWith, route_of_asked, is_within_limit, has_id, has_parts, bytes_of}
+use Rattle.intake_shed.specs.Requests.{IsRefusedWith, route_of_asked, is_within_limit, has_id, passes_checks, bytes_of}
 use Rattle.intake_shed.specs.declared.ask.Ask.{Ask}
 use Rattle.intake_shed.specs.declared.ask.Asked.{Asked}
 use Rattle.intake_shed.specs.declared.ask.Asked.TheVariants as asked
@@ -325,7 +325,7 @@ abbrev Stage : RouteValue → Ask → RequestError → Type 0
 Stage route ask why = ((why ≡ fault.BadName) × (has_name route ≡ false))
     ⊎ (((why ≡ fault.TooLong) × IsTrue (has_name route) × (is_within_limit ask.body ≡ false))
     ⊎ (((why ≡ fault.BadId) × IsTrue (has_name route && is_within_limit ask.body) × (has_id route ask ≡ false))
-    ⊎ (IsTrue (has_parts route ask) × IsBadBody route (bytes_of ask.body) why)))
+    ⊎ (IsTrue (passes_checks route ask) × IsBadBody route (bytes_of ask.body) why)))
 
 stage : (route : RouteValue) (ask : Ask) (why : RequestError) → FailsOnRoute route ask why → Stage route ask why
 stage route ask fault.NotFound h = inr (inr (inr h))
@@ -339,14 +339,14 @@ stage route ask fault.BadSecret h = inr (inr (inr h))
 stage route ask fault.BadMoment h = inr (inr (inr h))
 stage route ask fault.OutOfMemory h = inr (inr (inr h))
 
-name_passes : (route : RouteValue) (ask : Ask) → IsTrue (has_parts route ask) → IsTrue (has_name route)
+name_passes : (route : RouteValue) (ask : Ask) → IsTrue (passes_checks route ask) → IsTrue (has_name route)
 name_passes route ask h = (and_parts (has_name route) (is_within_limit ask.body && has_id route ask) h).0
 
-body_passes : (route : RouteValue) (ask : Ask) → IsTrue (has_parts route ask) → IsTrue (is_within_limit ask.body)
+body_passes : (route : RouteValue) (ask : Ask) → IsTrue (passes_checks route ask) → IsTrue (is_within_limit ask.body)
 body_passes route ask h = (and_parts (is_within_limit ask.body) (has_id route ask)
     (and_parts (has_name route) (is_within_limit ask.body && has_id route ask) h).1).0
 
-id_passes : (route : RouteValue) (ask : Ask) → IsTrue (has_parts route ask) → IsTrue (has_id route ask)
+id_passes : (route : RouteValue) (ask : Ask) → IsTrue (passes_checks route ask) → IsTrue (has_id route ask)
 id_passes route ask h = (and_parts (is_within_limit ask.body) (has_id route ask)
     (and_parts (has_name route) (is_within_limit ask.body && has_id route ask) h).1).1
 

@@ -100,5 +100,5 @@ AnswersAsk ask fresh seen reply given published confirmed =
     (what : Asked) × AsksFor ask fresh what × Answers what seen reply given published confirmed
 
 -- this holds, or the reply is out of memory
-abbrev pub OrLacksMemory : Type 0 → Reply → Type 0
-OrLacksMemory IsSo reply = IsSo ⊎ (reply ≡ out_of_memory)
+abbrev pub OrOutOfMemory : Type 0 → Reply → Type 0
+OrOutOfMemory IsSo reply = IsSo ⊎ (reply ≡ out_of_memory)

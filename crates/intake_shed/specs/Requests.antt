@@ -30,7 +30,7 @@ abbrev pub is_within_limit : AskBody → Bool
 is_within_limit (Whole bytes) = nat_le (length bytes.now) MAX_BODY_BYTES
 is_within_limit TooLong = false
 
--- the bytes of a body that has room
+-- the bytes of a body that is within the limit
 abbrev pub bytes_of : AskBody → Text
 bytes_of (Whole bytes) = bytes.now
 bytes_of TooLong = []
@@ -53,8 +53,8 @@ has_id (Event name id) ask = is_msg_id id
 has_id route ask = true
 
 -- the checks of a request's names, size and id
-abbrev pub has_parts : RouteValue → Ask → Bool
-has_parts route ask = has_name route && (is_within_limit ask.body && has_id route ask)
+abbrev pub passes_checks : RouteValue → Ask → Bool
+passes_checks route ask = has_name route && (is_within_limit ask.body && has_id route ask)
 
 -- the route of what is asked for
 abbrev pub route_of_command : Command → RouteValue
@@ -84,7 +84,7 @@ AgreesWithBody ask fresh _ = Unit {0}
 -- what a request asks for: it is on that route, passes the checks, and its body agrees
 pub record AsksFor (ask : Ask) (fresh : Text) (what : Asked) : Type 0 where
   pub on_route : IsOnRoute (route_of_asked what) ask
-  pub passes : IsTrue (has_parts (route_of_asked what) ask)
+  pub passes : IsTrue (passes_checks (route_of_asked what) ask)
   pub says : AgreesWithBody ask fresh what
 
 -- Why a body is refused: only a PUT's can be bad. An allocation may fail for each body that is read
@@ -104,7 +104,7 @@ abbrev pub FailsOnRoute : RouteValue → Ask → RequestError → Type 0
 FailsOnRoute route ask fault.BadName = has_name route ≡ false
 FailsOnRoute route ask fault.TooLong = IsTrue (has_name route) × (is_within_limit ask.body ≡ false)
 FailsOnRoute route ask fault.BadId = IsTrue (has_name route && is_within_limit ask.body) × (has_id route ask ≡ false)
-FailsOnRoute route ask why = IsTrue (has_parts route ask) × IsBadBody route (bytes_of ask.body) why
+FailsOnRoute route ask why = IsTrue (passes_checks route ask) × IsBadBody route (bytes_of ask.body) why
 
 -- the first check that fails: the request is on no route, or fails a check on its route
 abbrev pub IsRefusedFor : Ask → RequestError → Type 0
@@ -113,12 +113,12 @@ IsRefusedFor ask fault.OutOfMemory = ⊥
 IsRefusedFor ask why = (route : RouteValue) × IsOnRoute route ask × FailsOnRoute route ask why
 
 -- an allocation may fail for a body that is read or copied, after the checks of names, size and id
-abbrev pub MayLackMemory : Ask → Type 0
-MayLackMemory ask = (route : RouteValue) × IsOnRoute route ask × FailsOnRoute route ask fault.OutOfMemory
+abbrev pub MayRunOutOfMemory : Ask → Type 0
+MayRunOutOfMemory ask = (route : RouteValue) × IsOnRoute route ask × FailsOnRoute route ask fault.OutOfMemory
 
 -- why a request isn't read: a check failed, or an allocation
 abbrev pub IsNotReadFor : Ask → RequestError → Type 0
-IsNotReadFor ask fault.OutOfMemory = MayLackMemory ask
+IsNotReadFor ask fault.OutOfMemory = MayRunOutOfMemory ask
 IsNotReadFor ask why = IsRefusedFor ask why
 
 -- the reply to a request that isn't read: that of the failed check, or out of memory

@@ -4,7 +4,7 @@ ghost use Rattle.intake_shed.specs.Pages.{asks_for_page};
 ghost use Rattle.intake_shed.specs.Replies.{ask_reply};
 ghost use Rattle.intake_shed.specs.Requests.{AsksFor, IsRefusal, IsRefusedFor};
 ghost use Rattle.intake_shed.specs.Answers.{Answers, AnswersAsk, FailsBy, GivesPageAt, IsPublishReply, IsEventReply};
-ghost use Rattle.intake_shed.specs.Answers.{OrLacksMemory, ConfirmsChange, may_fail};
+ghost use Rattle.intake_shed.specs.Answers.{OrOutOfMemory, ConfirmsChange, may_fail};
 ghost use Rattle.intake_shed.specs.declared.fault.RequestError.{RequestError};
 
 use crate::ack::Ack;
@@ -40,9 +40,9 @@ pub fn answer<L: Ledger, I: LogId, R: Wait>(
     ensures answers { IsRefusal ask.now result.reply ⊎ AnswersAsk ask.now fresh pass.new result.reply result.ack
         result.published result.confirmed }
     ensures asks { (what : Asked) → AsksFor ask.now fresh what
-        → OrLacksMemory (Answers what pass.new result.reply result.ack result.published result.confirmed) result.reply }
+        → OrOutOfMemory (Answers what pass.new result.reply result.ack result.published result.confirmed) result.reply }
     ensures refuses { (why : RequestError) → IsRefusedFor ask.now why
-        → OrLacksMemory (result.reply ≡ ask_reply why) result.reply }
+        → OrOutOfMemory (result.reply ≡ ask_reply why) result.reply }
     ensures pass { pass.old ≤ pass.new }
 {
     match read_ask(alloc, ask, fresh) {

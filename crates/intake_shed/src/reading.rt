@@ -5,7 +5,7 @@ ghost use Rattle.relay_types.specs.Values.{is_name};
 ghost use Rattle.text_lines.specs.Parts.{texts};
 ghost use Rattle.intake_shed.specs.Requests.{AsksFor, IsRefusal, IsRefusedFor, IsNotReadFor, IsReadAs, IsRefusedWith};
 ghost use Rattle.intake_shed.specs.Requests.{FailsOnRoute, AgreesWithBody, route_of_asked};
-ghost use Rattle.intake_shed.specs.Requests.{has_parts, is_within_limit, bytes_of, has_one_id, id_of};
+ghost use Rattle.intake_shed.specs.Requests.{passes_checks, is_within_limit, bytes_of, has_one_id, id_of};
 ghost use Rattle.intake_shed.specs.Routes.{route_value};
 ghost use Rattle.intake_shed.specs.declared.ask.Asked.{Asked};
 ghost use Rattle.intake_shed.specs.declared.fault.RequestError.{RequestError};
@@ -51,7 +51,7 @@ fn read_on(
     fresh: MsgId,
 ) -> Result<Asked, RequestError>
     ensures route { IfOk result (λ asked. route_of_asked asked ≡ route_value route.entry) }
-    ensures passes { OnOk result (IsTrue (has_parts (route_value route.entry) ask.now)) }
+    ensures passes { OnOk result (IsTrue (passes_checks (route_value route.entry) ask.now)) }
     ensures says { IfOk result (λ asked. AgreesWithBody ask.now fresh asked) }
     ensures refused { IfErr result (λ why. FailsOnRoute (route_value route.entry) ask.now why) }
 {

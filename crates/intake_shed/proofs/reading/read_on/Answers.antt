@@ -5,7 +5,7 @@ use Rattle.std.proofs.lemmas.Result.{err_from_is_err_and}
 use Rattle.relay_types.specs.Values.{Text, is_name}
 use Rattle.intake_shed.specs.Bodies.{IsBadPut, IsBadByValue}
 use Rattle.intake_shed.specs.RouteTable.{Put}
-use Rattle.intake_shed.specs.Requests.{FailsOnRoute, is_within_limit, has_parts, bytes_of}
+use Rattle.intake_shed.specs.Requests.{FailsOnRoute, is_within_limit, passes_checks, bytes_of}
 use Rattle.intake_shed.specs.Routes.{route_value}
 use Rattle.intake_shed.specs.declared.ask.Ask.{Ask}
 use Rattle.intake_shed.specs.declared.fault.RequestError.{RequestError}
@@ -23,7 +23,7 @@ handed_on {A} result why P h p =
     subst (λ r. IfErr r P) (sym (err.1 ∙ ap (λ x. refusing {A = A} x) err.2)) p
 
 -- a bad body of a new endpoint is one of the checks after those of name and size
-bad_put_on : (name : Text) (ask : Ask) (why : RequestError) → IsTrue (has_parts (Put name) ask)
+bad_put_on : (name : Text) (ask : Ask) (why : RequestError) → IsTrue (passes_checks (Put name) ask)
     → IsBadByValue IsBadPut (bytes_of ask.body) why → FailsOnRoute (Put name) ask why
 bad_put_on name ask fault.NotFound parts h = (parts, h)
 bad_put_on name ask fault.BadName parts (v, json, (url, max, list, members, bad)) = absurd bad
@@ -43,7 +43,7 @@ returns-in_err-read_put-in-Put-clause-refused c =
     let why = c.in_err-read_put-in-Put.field-0.0 in
     let roomy : IsTrue (is_within_limit ask.body && true) = and_from (is_within_limit ask.body) true
     c.in_ok-body-in-Put.ensures.passes refl in
-    let parts : IsTrue (has_parts (Put name) ask) = and_from (is_name name) (is_within_limit ask.body && true)
+    let parts : IsTrue (passes_checks (Put name) ask) = and_from (is_name name) (is_within_limit ask.body && true)
     c.in_ok-name-in-Put.ensures.passes roomy in
     let bad : IsBadByValue IsBadPut (bytes_of ask.body) why =
     subst (λ body. IsBadByValue IsBadPut body why) c.in_ok-body-in-Put.ensures.bytes
