@@ -23,7 +23,7 @@ use Rattle.sound_tables.specs.Keys.{has_first_tables, has_meta}
 use Rattle.spool.specs.Adopting.{FailsIfOfStore, HaveFirstHistory, HaveHistory, IsForeign, IsOnlyRead}
 use Rattle.spool.specs.Migrating.{HaveRows, LeavesMigrated, MayMigrate}
 use Rattle.spool.proofs.MigrateLemmas.{only_read}
-use Rattle.spool.specs.Opening.{LeavesAt}
+use Rattle.spool.specs.Opening.{IsBack, LeavesAt}
 use Rattle.spool.specs.declared.faults.OpenFault.{OpenFault}
 use Rattle.spool.specs.declared.faults.OpenFault.TheVariants.{NotOurs, NewerVersion, OldVersion, Damaged, Store}
 use Rattle.spool.specs.declared.faults.OpenFault.TheVariants.{OutOfMemory}
@@ -32,10 +32,9 @@ use Rattle.desk.specs.Desks.{DeskValue}
 use Rattle.desk.specs.World.{World, all_records}
 use Rattle.recovery.specs.Files.{HoldsEither, HoldsFirstRows, HoldsFirstTables, HoldsRows, HoldsLeftOf}
 use Rattle.recovery.specs.Files.{IsMadeOrReopened, IsFileOpened, IsFileRefused}
-use Rattle.recovery.specs.Left.{HasNoTable}
-use Rattle.recovery.specs.Openings.{IsNewStore, IsRefusedAs, LeavesOr}
+use Rattle.recovery.specs.Openings.{IsNewStore, KeepsOr, LeavesOr}
 use Rattle.recovery.specs.Reopenings.{AreOpenedAt, AreOpenedAtOne, IsNotMigrated, IsOfReading, IsOpenBehind}
-use Rattle.recovery.specs.Reopenings.{IsReadingRefusal, IsUnopened, ReopensLeft}
+use Rattle.recovery.specs.Reopenings.{IsReadingRefusal, IsUnopened}
 use Rattle.recovery.proofs.ReopeningLaws.{opens_one}
 
 abbrev HasNone : List Table → Type 0
@@ -113,16 +112,18 @@ pub file_refused : (image : Image) (old new : State) (fault : OpenFault) (is_new
     → FindsIn image old
     → (has_meta old.now.schema ≡ false → IsForeign fault)
     → (has_meta old.now.schema ≡ false → ¬ IsNewStore is_new old.now.schema → FailsIfOfStore new fault)
+    → (has_meta old.now.schema ≡ false → ¬ IsNewStore is_new old.now.schema → IsTrue new.is_open → IsBack old new)
     → (IsOwn old.now.schema → IsUnopened old new fault) → (HaveHistory old.now → IsReadingRefusal old new fault)
     → (HaveFirstHistory old.now → IsNotMigrated old new fault)
     → (IsTrue is_new → old.now.schema ≡ no_schema → IsOfReading fault × (IsOnlyRead old new ⊎ LeavesAt old new fault))
     → (¬ IsNewStore is_new old.now.schema → LeavesMigrated old new fault) → IsFileRefused image is_new old new fault
-file_refused image old new fault is_new live opens finds ours foreign says sound first made leaves = record {
+file_refused image old new fault is_new live opens finds ours foreign back says sound first made leaves = record {
   finds = finds_trees image old opens finds;
   lists = (live opens.is_open).0;
   opened = opens;
   ours = ours;
   foreign = foreign;
+  back = back;
   says = says;
   made = λ new none. (made new none).0;
   unmade = λ new. (made new.0 new.1).1;
@@ -153,51 +154,26 @@ may_stay s = only_read s s (read_same s)
 pub not_new : (is_new : Bool) (schema : Schema) → is_new ≡ false → ¬ IsNewStore is_new schema
 not_new is_new schema old new = false≢true (sym old ∙ new.0)
 
--- a store that has no table is begun
-pub begun : {S : Type 0} (g : Ghosts S) (conn : Held S) → (state g conn).now.schema ≡ no_schema → HasNoTable g conn
-begun g conn none = record { schema_is = none; empty = tt }
-
--- no stop left such a store
-pub none_left : {S : Type 0} (g : Ghosts S) (conn : Held S) (desk : DeskValue) (vault : VaultValue S)
-    → (state g conn).now.schema ≡ no_schema → ReopensLeft g conn desk vault
-none_left g conn desk vault none w legal (rows, is_left, stands) =
-    not_both (state g conn).now.schema none (inr stands.now.schema_is)
-
--- the making of the tables is refused as foreign
-pub foreign_unmade : (schema : Schema) (fault : OpenFault) → IsRefusedAs schema fault → IsForeign fault
-foreign_unmade schema NotOurs refused = tt
-foreign_unmade schema NewerVersion none = none
-foreign_unmade schema OldVersion none = none
-foreign_unmade schema Damaged none = none
-foreign_unmade schema (Store cause) refused = tt
-foreign_unmade schema OutOfMemory refused = tt
-
--- what a refusal of it leaves, also where the connection came back as it was
+-- what a refusal to make the tables leaves, also where the connection came back as it was
 pub left_or : {S : Type 0} (g : Ghosts S) (old new : Held S) (fault : OpenFault) → HasCleanDisk (state g new)
     → LeavesOr g old new fault → IsOnlyRead (state g old) (state g new) ⊎ LeavesAt (state g old) (state g new) fault
 left_or {S} g old new fault clean (inl same) =
     inl (subst (λ (it : Held S). IsOnlyRead (state g old) (state g it)) (sym same) (read_same (state g old)))
 left_or g old new fault clean (inr leaves) = inr (leaves clean)
 
--- what a fact of an answer, or of a refusal, makes of a clause on both
-module _ {A E : Type 0} (P Q : E → Type 0) (N : Type 0) where
-  pub of_new : (r : Result A E) → N → ((e : E) → P e → Q e) → IfErr r P → MatchResult r (λ _. N) Q
-  of_new (Ok x) new so h = new
-  of_new (Err e) new so h = so e h
+-- what was found stands, also where the connection came back as it was
+pub back_or : {S : Type 0} (g : Ghosts S) (old new : Held S) → Opens (state g old) → HasCleanDisk (state g new)
+    → KeepsOr g old new → IsTrue (state g new).is_open → IsBack (state g old) (state g new)
+back_or {S} g old new opens clean (inl same) is_open =
+    subst (λ (it : Held S). IsBack (state g old) (state g it)) (sym same)
+    (record { now = opens.clean; committed = refl; autocommit = opens.autocommit })
+back_or g old new opens clean (inr back) is_open = back clean is_open
 
+-- what is never answered may be answered only so
 pub of_none : {A E : Type 0} (N : Type 0) (Q : E → Type 0) (r : Result A E) → MatchResult r (λ _. ⊥) Q
     → MatchResult r (λ _. N) Q
 of_none N Q (Ok x) none = absurd none
 of_none N Q (Err e) q = q
-
--- what is so of each answer
-pub each_answer : {A E : Type 0} (P : A → Type 0) (r : Result A E) → ((x : A) → P x) → IfOk r P
-each_answer P (Ok x) each = each x
-each_answer P (Err e) each = tt
-
-pub answered_so : {A E : Type 0} (P Q : A → Type 0) (r : Result A E) → ((x : A) → P x → Q x) → IfOk r P → IfOk r Q
-answered_so P Q (Ok x) so h = so x h
-answered_so P Q (Err e) so h = tt
 
 -- What was opened had the tables.
 pub of_whole : {A E : Type 0} (P Q R : A → Type 0) (r : Result A E) → IfOk r P → IfOk r Q → ((x : A) → P x → Q x → R x)

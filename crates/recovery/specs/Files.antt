@@ -17,7 +17,7 @@ use Rattle.spool_sql.specs.Tables.{IsOwn, no_schema}
 use Rattle.sound_tables.specs.Keys.{has_first_tables, has_meta}
 use Rattle.spool.specs.Adopting.{FailsIfOfStore, IsForeign, IsOnlyRead}
 use Rattle.spool.specs.Migrating.{LeavesMigrated}
-use Rattle.spool.specs.Opening.{LeavesAt}
+use Rattle.spool.specs.Opening.{IsBack, LeavesAt}
 use Rattle.spool.specs.Vaults.{VaultValue}
 use Rattle.spool.specs.declared.faults.OpenFault.{OpenFault}
 use Rattle.desk.specs.World.{World, all_records}
@@ -96,6 +96,8 @@ pub record IsFileRefused (image : Image) (is_new : Bool) (old new : State) (faul
   pub ours : has_meta old.now.schema ≡ false → IsForeign fault
   -- If it isn't a new file without tables, a fault of the store was met at it.
   pub foreign : has_meta old.now.schema ≡ false → ¬ IsNewStore is_new old.now.schema → FailsIfOfStore new fault
+  -- Then all its tables are as they were, if the store is still open.
+  pub back : has_meta old.now.schema ≡ false → ¬ IsNewStore is_new old.now.schema → IsTrue new.is_open → IsBack old new
   pub says : IsOwn old.now.schema → IsUnopened old new fault
   -- A new file without tables is refused only for memory or by the store.
   pub made : IsTrue is_new → old.now.schema ≡ no_schema → IsOfReading fault

@@ -5,7 +5,7 @@ use Rattle.sqlite.specs.Held.{Held}
 use Rattle.sqlite.specs.Schema.{Schema}
 use Rattle.spool_sql.specs.Steps.{IfClean}
 use Rattle.spool_sql.specs.Tables.{no_schema}
-use Rattle.spool.specs.Opening.{has_ours, LeavesAt}
+use Rattle.spool.specs.Opening.{has_ours, IsBack, LeavesAt}
 use Rattle.spool.specs.declared.faults.OpenFault.{OpenFault}
 use Rattle.spool.specs.declared.faults.OpenFault.TheVariants.{NotOurs, NewerVersion, OldVersion, Damaged, Store}
 use Rattle.spool.specs.declared.faults.OpenFault.TheVariants.{OutOfMemory}
@@ -25,3 +25,7 @@ IsRefusedAs schema _ = ⊥
 -- The connection is as it was, or its store has what the vault's opening leaves at this refusal.
 abbrev pub LeavesOr : {S : Type 0} → Ghosts S → (old new : Held S) → OpenFault → Type 0
 LeavesOr g old new fault = (new ≡ old) ⊎ IfClean g old new (λ a b. LeavesAt a b fault)
+
+-- The connection is as it was, or if its store is still open, all tables are as the last commit left them.
+abbrev pub KeepsOr : {S : Type 0} → Ghosts S → (old new : Held S) → Type 0
+KeepsOr g old new = (new ≡ old) ⊎ IfClean g old new (λ a b. IsTrue b.is_open → IsBack a b)

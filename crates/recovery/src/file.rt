@@ -16,7 +16,7 @@ ghost use Rattle.desk.specs.Desks.{HasNothingOut, StandsFor};
 ghost use Rattle.desk.specs.Moves.{opened};
 ghost use Rattle.recovery.specs.Files.{HoldsFirstTables, IsFileOpened, IsFoundOpened, OpensOr, OpensPathOr};
 ghost use Rattle.recovery.specs.Left.{IsCleanAt, VaultStandsFor};
-ghost use Rattle.recovery.specs.Openings.{IsNewStore, LeavesOr};
+ghost use Rattle.recovery.specs.Openings.{IsNewStore, KeepsOr, LeavesOr};
 ghost use Rattle.recovery.specs.Paths.{ConnectsOr, IsOfLook, IsOfOpen, IsOfPath, IsToldUnfit, unopened_fault};
 ghost use Rattle.recovery.specs.Reopenings.{IsNotMigrated, IsOfReading, IsOfRows, IsOpenBehind, IsReadingRefusal};
 ghost use Rattle.recovery.specs.Reopenings.{IsUnopened, ReopensLeft};
@@ -156,6 +156,8 @@ pub fn open<L: Ledger, S: Alter>(
     ensures foreign { has_meta (state S.Store conn).now.schema ≡ false
         → ¬ IsNewStore is_new (state S.Store conn).now.schema
         → IfErr result (λ back. IfClean S.Store conn back.0 (λ _ b. FailsIfOfStore b back.1)) }
+    ensures back { has_meta (state S.Store conn).now.schema ≡ false
+        → ¬ IsNewStore is_new (state S.Store conn).now.schema → IfErr result (λ back. KeepsOr S.Store conn back.0) }
     ensures whole { ¬ IsNewStore is_new (state S.Store conn).now.schema
         → IfOk result (λ opening. IfClean S.Store conn opening.1.conn
         (λ a _. IsTrue (has_first_tables a.now.schema))) }

@@ -6,6 +6,7 @@ ghost use Rattle.spool_sql.specs.Tables.{IsOwn};
 ghost use Rattle.sound_tables.specs.Keys.{has_first_tables, has_meta};
 ghost use Rattle.spool.specs.Adopting.{FailsIfOfStore, HaveFirstHistory, HaveHistory, IsForeign};
 ghost use Rattle.spool.specs.Migrating.{LeavesMigrated};
+ghost use Rattle.spool.specs.Opening.{IsBack};
 ghost use Rattle.desk.specs.Desks.{HasNothingOut};
 ghost use Rattle.recovery.specs.Left.{IsCleanAt};
 ghost use Rattle.recovery.specs.Reopenings.{IsNotMigrated, IsOpenBehind, IsReadingRefusal, IsReopened, IsUnopened};
@@ -40,6 +41,8 @@ pub fn reopen<L: Ledger, S: Alter>(
         → MatchResult result (λ _. ⊥) (λ back. IsForeign back.1) }
     ensures foreign { has_meta (state S.Store conn).now.schema ≡ false
         → IfErr result (λ back. IfClean S.Store conn back.0 (λ _ b. FailsIfOfStore b back.1)) }
+    ensures back { has_meta (state S.Store conn).now.schema ≡ false
+        → IfErr result (λ back. IfClean S.Store conn back.0 (λ a b. IsTrue b.is_open → IsBack a b)) }
     ensures whole { IfOk result (λ opening. IfClean S.Store conn opening.1.conn
         (λ a _. IsTrue (has_first_tables a.now.schema))) }
     ensures opened { IfOk result (λ opening. IfClean S.Store conn opening.1.conn

@@ -1,6 +1,6 @@
-use Rattle.std.proofs.Common.{inr}
+use Rattle.std.proofs.Common.{inl, inr, refl}
 use Rattle.sqlite.specs.Held.{state}
-use Rattle.recovery.proofs.FileLaws.{may_stay, of_none, of_whole}
+use Rattle.recovery.proofs.FileLaws.{may_stay, of_none, of_whole, refused_so}
 use Rattle.recovery.proofs.file.open.Goals as goal
 
 pub returns-in-Ok-clause-opened : goal.returns-in-Ok-clause-opened
@@ -13,6 +13,13 @@ returns-in-Ok-clause-ours g c none = of_none _ _ c.reopen.result (c.reopen.ensur
 
 pub returns-in-Ok-clause-foreign : goal.returns-in-Ok-clause-foreign
 returns-in-Ok-clause-foreign g c none old = c.reopen.ensures.foreign none
+
+pub returns-in-Ok-clause-back : goal.returns-in-Ok-clause-back
+returns-in-Ok-clause-back g c none old = refused_so _ _ c.reopen.result (λ back same. inr same)
+    (c.reopen.ensures.back none)
+
+pub returns-in-Err-clause-back : goal.returns-in-Err-clause-back
+returns-in-Err-clause-back g c none old = inl refl
 
 pub returns-in-Ok-clause-whole : goal.returns-in-Ok-clause-whole
 returns-in-Ok-clause-whole g c old = c.reopen.ensures.whole

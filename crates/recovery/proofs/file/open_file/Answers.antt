@@ -2,7 +2,7 @@ use Rattle.std.proofs.Common.{inl, inr}
 use Rattle.std.proofs.lemmas.Result.{err_from_is_err_and}
 use Rattle.sqlite.specs.Files.{over_files, file_state}
 use Rattle.sqlite.specs.WalFiles.{image_at}
-use Rattle.recovery.proofs.FileLaws.{file_opened, file_refused, holds_first, left_or, not_new}
+use Rattle.recovery.proofs.FileLaws.{back_or, file_opened, file_refused, holds_first, left_or, not_new}
 use Rattle.recovery.proofs.file.open_file.Goals as goal
 
 pub returns-in-Ok-clause-opened : goal.returns-in-Ok-clause-opened
@@ -30,6 +30,8 @@ returns-in-Err-clause-refused g c = inr (
       file_refused (image_at g.T.Start) (file_state c.in_ok-conn.conn) (file_state c.in-Err._back) c.in-Err.fault
       c.args.is_new opened.1 opened.0 (c.in_ok-conn.ensures.finds before)
       c.in-Err.ensures.ours (λ none old. c.in-Err.ensures.foreign none old clean)
+      (λ none old. back_or over_files c.in_ok-conn.conn c.in-Err._back opened.0 clean
+      (c.in-Err.ensures.back none old))
       (c.in-Err.ensures.refused clean) (c.in-Err.ensures.sound clean) (c.in-Err.ensures.first clean)
       (λ new none. let made = c.in-Err.ensures.made new none in
       (made.0, left_or over_files c.in_ok-conn.conn c.in-Err._back c.in-Err.fault clean made.1))

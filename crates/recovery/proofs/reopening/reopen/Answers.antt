@@ -14,6 +14,14 @@ returns-in_err-vault-clause-foreign g c =
     let p = err_from_is_err_and c.from_residual.result c.from_residual.ensures.1 in
     rw (p.1, p.2) (λ none. c.in_err-vault.ensures.foreign none)
 
+pub returns-clause-back : goal.returns-clause-back
+returns-clause-back g c none = absurd (c.in_ok-vault.ensures.ours none)
+
+pub returns-in_err-vault-clause-back : goal.returns-in_err-vault-clause-back
+returns-in_err-vault-clause-back g c =
+    let p = err_from_is_err_and c.from_residual.result c.from_residual.ensures.1 in
+    rw (p.1, p.2) (λ none. c.in_err-vault.ensures.back)
+
 pub returns-clause-opened : goal.returns-clause-opened
 returns-clause-opened g c = of_answer _ _ _ _ c.with_desk.result
     (λ opening opens clean new schema. is_reopened g.S.Store (state g.S.Store c.args.conn).now c.in_ok-vault.vault
