@@ -95,7 +95,7 @@ def check_delivered(counts, relay, subscriber):
     counts.check("the signature of a post", post.is_signed_by(SECRET))
     page = f"{EVENTS}/msg_1"
     state = lambda: ask(relay.address, "GET", page).json()["state"]
-    counts.check("the page says delivered", wait_until(lambda: state() == "delivered", 5))
+    counts.check("the page says delivered", wait_until(lambda: state() == "delivered"))
 
 
 def check_made_ids(counts, relayd, folder):

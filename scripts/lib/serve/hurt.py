@@ -74,7 +74,7 @@ def check_full(counts, relayd, folder, subscriber):
         counts.check("full: some were taken", len(taken) > 20)
         print(f"{len(taken)} events were taken before the file system was full")
         counts.check("full: it ends", relay.ended(20), 3)
-        wait_until(lambda: len(relay.told) >= 2, 5)
+        wait_until(lambda: len(relay.told) >= 2)
         counts.check("full: it told of it", ["halted: the store failed" in "".join(relay.told), relay.told[-1]], [True, "relayd: Halted\n"])
         counts.check("full: the others were told 503, or nothing", all(it is None or it[0] in (503, None) for it in others))
         with mounted(folder, "room", "64m") as room:
@@ -113,7 +113,7 @@ def answer_to_more(address, event="more"):
 def check_halted(counts, name, relay):
     """The relay ends, since its file isn't there, and says so."""
     counts.check(f"{name}: it ends", relay.ended(20), 3)
-    wait_until(lambda: relay.told and relay.told[-1] == "relayd: Halted\n", 5)
+    wait_until(lambda: relay.told and relay.told[-1] == "relayd: Halted\n")
     counts.check(f"{name}: it told of it", ["halted: the file isn't the one that was opened" in "".join(relay.told), relay.told[-1]], [True, "relayd: Halted\n"])
 
 
