@@ -583,9 +583,16 @@ static SIGNATURES: &[Run] = &[
         status: 0,
     },
     Run {
-        words: &["relayd", "sign", "msg_1", "1000", SECRET, SECRET],
+        words: &[
+            "relayd",
+            "sign",
+            "msg_1",
+            "1000",
+            SECRET,
+            "whsec_AAAAAAAAAAAAAAAAAAAAAAAAAAAAAAAA",
+        ],
         texts: &[""],
-        output: "v1,SWmnEwHTCxM5LOV+bjJ4VJ8UF8MOq1/kZ1YxmYp0p4g= v1,SWmnEwHTCxM5LOV+bjJ4VJ8UF8MOq1/kZ1YxmYp0p4g=\n",
+        output: "v1,SWmnEwHTCxM5LOV+bjJ4VJ8UF8MOq1/kZ1YxmYp0p4g= v1,Yr85wgeyK4wnnPBNTS1SHnPM/J6uU3GDMZkDuR+XxGk=\n",
         errors: "",
         status: 0,
     },
