@@ -54,8 +54,8 @@ Migrated old db = (rows : Rows) → IsFirstTables old.now rows → AreTablesOf d
 abbrev pub IsMigratedTo : State → State → Type 0
 IsMigratedTo old new = (rows : Rows) → IsFirstTables old.now rows → Rests new rows
 
--- If the schema was that of version 1, its tables had sound rows, and the tables of version 2 on the disk have these. So
--- damaged tables aren't migrated.
+-- If the schema was that of version 1, its tables had sound rows, and the tables of version 2 on the disk have these.
+-- So damaged tables aren't migrated.
 abbrev pub AreSoundIfFirst : State → Trees → Type 0
 AreSoundIfFirst old db =
     old.now.schema ≡ first_schema → (rows : Rows) × tables.AreSoundFirstTables old.now rows × AreTablesOf db rows
