@@ -5,6 +5,10 @@ its tests and of its mutants, the processor time that they took, and that of com
 it. Then the longest chain of crates that wait for one another, by the time of their proofs. It
 looks at the processes that the gate started, twice a second, and changes nothing of what the gate
 does. Its exit status is the gate's. All times are in seconds.
+
+A virtual machine may wait for processors that its host gives to others (steal, /proc/stat). If
+more than 1 of 100 of the time that was wanted went that way, it also prints how long the gate
+would have taken without: each half second counts by the share of processors that it was given.
 Usage: scripts/gate times
 """
 import functools
@@ -51,6 +55,30 @@ def task_of(pid):
         if program:
             return program[1], "runs"
     return None
+
+
+def machine_times():
+    """What all processors together have worked, and what the host took from them, in ticks since the machine started."""
+    user, nice, system, _, _, interrupts, soft, stolen = map(int, pathlib.Path("/proc/stat").read_text().split()[1:9])
+    return user + nice + system + interrupts + soft, stolen
+
+
+class Host:
+    """How much of the wanted processor time the host took, and the time that passed without that."""
+
+    def __init__(self):
+        self.at, self.first, self.last = time.monotonic(), machine_times(), machine_times()
+        self.own = 0.0
+
+    def look(self):
+        now, seen = time.monotonic(), machine_times()
+        worked, stolen = (new - old for new, old in zip(seen, self.last))
+        self.own += (now - self.at) * (worked / (worked + stolen) if stolen else 1)
+        self.at, self.last = now, seen
+
+    def share(self):
+        worked, stolen = (new - old for new, old in zip(self.last, self.first))
+        return stolen / max(worked + stolen, 1)
 
 
 class Times:
@@ -135,7 +163,7 @@ def longest_chain(times):
 
 def main():
     os.chdir(ROOT)
-    times = Times()
+    times, host = Times(), Host()
     began = time.monotonic()
     gate = subprocess.Popen(["rt", "ci"])
     ended = threading.Event()
@@ -143,6 +171,7 @@ def main():
     def watch():
         while not ended.wait(PAUSE):
             times.look(gate.pid)
+            host.look()
 
     watcher = threading.Thread(target=watch, daemon=True)
     watcher.start()
@@ -156,6 +185,8 @@ def main():
     print()
     for line in table(times, time.monotonic() - began, used.ru_utime + used.ru_stime):
         print(line)
+    if host.share() > 0.01:
+        print(f"The host took {100 * host.share():.0f} of 100 of what was wanted of these: without that, some {host.own / 60:.1f} minutes.")
     crates, seconds = longest_chain(times)
     if seconds:
         print(f"The longest chain took {seconds / 60:.1f} minutes: {', '.join(crates)}.")
