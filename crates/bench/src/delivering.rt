@@ -1,7 +1,7 @@
 //! Events that are posted: each is claimed and spent with status 200, and the outcomes are committed 256 at a time.
+use crate::batches::{BATCH, commit_waiting};
 use crate::failed::Failed;
 use crate::times::{Times, add, since};
-use crate::turns::{BATCH, turn};
 use desk::Desk;
 use permits::Foreign;
 use relay_types::Moment;
@@ -29,7 +29,7 @@ pub(crate) fn deliver<L: Ledger, S: Alter>(
         if times.first_claims.is_zero() {
             times.first_claims = times.claiming;
         }
-        turn(rt, began, desk, vault, &mut times.outcomes)?;
+        commit_waiting(rt, began, desk, vault, &mut times.outcomes)?;
     }
     Ok(())
 }

@@ -1,7 +1,7 @@
 //! The rows of a run by bare statements, 256 in one transaction.
+use crate::batches::BATCH;
 use crate::events::{ENDPOINTS, bytes_of_body, id_text};
 use crate::failed::Failed;
-use crate::turns::BATCH;
 use sqlite::{Alter, Connection, Error, Transaction};
 use sqlite_value::value::ValueRef;
 use std::alloc::Global;
@@ -14,7 +14,7 @@ const DELIVERIES_TABLE: &str =
      id TEXT NOT NULL, at INTEGER NOT NULL, body BLOB NOT NULL, UNIQUE(endpoint, id)) STRICT";
 
 /// Inserts the rows of 100 endpoints and of as many events of 1 KiB. Whether all are.
-pub(crate) fn is_inserted<S: Alter + Drop>(
+pub(crate) fn insert_rows<S: Alter + Drop>(
     alloc: Global,
     mut conn: Connection<S>,
     count: u32,

@@ -2,6 +2,7 @@
 //! opens what it works on in one function, lends it to others, and prints once at its end.
 #![tactic(auto)]
 
+mod batches;
 mod books;
 mod delivering;
 mod events;
@@ -13,10 +14,9 @@ mod queues;
 mod reopening;
 mod submitting;
 mod times;
-mod turns;
 
 use crate::books::print_book;
-use crate::inserting::is_inserted;
+use crate::inserting::insert_rows;
 use crate::limits::print_limit;
 use crate::purging::print_purge;
 use crate::queues::print_calls;
@@ -96,7 +96,7 @@ fn run_with<S: Alter + Drop>(
     run: Run,
 ) -> io::Result<bool> {
     match run {
-        Run::Insert(count) => Ok(is_inserted(rt.alloc(), conn, count)),
+        Run::Insert(count) => Ok(insert_rows(rt.alloc(), conn, count)),
         Run::Parts => print_parts(rt, began, conn),
         Run::Purge(count) => print_purge(rt, began, conn, count),
         Run::Submit(plan) => print_submitting(rt, began, conn, plan),

@@ -2,11 +2,11 @@
 ghost use Rattle.std.specs.Prelude.{◌≡◌};
 ghost use Rattle.permits.specs.declared.pool.TheConstants.{PARTS};
 
+use crate::batches::{MARK, commit_waiting, created};
 use crate::delivering::deliver;
 use crate::failed::Failed;
-use crate::submitting::{ROUND, put_each, take_in};
-use crate::times::{Times, Turns, add, print_time, print_turns, since};
-use crate::turns::{MARK, created, turn};
+use crate::submitting::{ROUND, put_each, submit_and_commit};
+use crate::times::{BatchTimes, Times, add, print_batches, print_time, since};
 use desk::{Command, Desk};
 use permits::PARTS;
 use relay_types::Moment;
@@ -29,7 +29,7 @@ const LATE: u64 = 2000;
 #[derive(Clone, Copy)]
 struct Purged {
     staging: Duration,
-    turns: Turns,
+    batches: BatchTimes,
     left: u64,
 }
 
@@ -47,7 +47,7 @@ pub(crate) fn print_purge<S: Alter + Drop>(
     };
     println!(rt; "left {}", purged.left)?;
     print_time(rt, "purge staging", purged.staging)?;
-    print_turns(rt, "purge", &purged.turns)?;
+    print_batches(rt, "purge", &purged.batches)?;
     Ok(true)
 }
 
@@ -84,7 +84,7 @@ fn purge_half<L: Ledger, S: Alter>(
     count: u32,
 ) -> Result<Purged, Failed> {
     put_each(rt.alloc(), desk, ENDPOINTS)?;
-    turn(rt, began, desk, vault, &mut Times::ZERO.submissions)?;
+    commit_waiting(rt, began, desk, vault, &mut Times::ZERO.submissions)?;
     deliver_all(rt, began, desk, vault, (0, count), Moment::of(EARLY)?)?;
     deliver_all(rt, began, desk, vault, (count, count), Moment::of(LATE)?)?;
     purge_before(rt, began, desk, vault)
@@ -104,7 +104,7 @@ fn deliver_all<L: Ledger, S: Alter>(
     for round in 0..count.div_ceil(ROUND) {
         let from = first.saturating_add(round.saturating_mul(ROUND));
         let upto = end.min(from.saturating_add(ROUND));
-        take_in(rt, began, desk, vault, ENDPOINTS, (from, upto), &mut times)?;
+        submit_and_commit(rt, began, desk, vault, ENDPOINTS, (from, upto), &mut times)?;
         let posts = upto.saturating_sub(from);
         deliver(rt, began, desk, vault, (posts, now), &mut times)?;
     }
@@ -121,13 +121,13 @@ fn purge_before<L: Ledger, S: Alter>(
     let before = Moment::of(LATE)?;
     let mut purged = Purged {
         staging: Duration::ZERO,
-        turns: Times::ZERO.outcomes,
+        batches: Times::ZERO.outcomes,
         left: 0,
     };
     let from = since(rt, began);
     desk.command(Command::Purge { before })?;
     add(&mut purged.staging, from, since(rt, began));
-    turn(rt, began, desk, vault, &mut purged.turns)?;
+    commit_waiting(rt, began, desk, vault, &mut purged.batches)?;
     purged.left = desk.totals().delivered;
     Ok(purged)
 }

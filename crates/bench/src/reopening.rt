@@ -2,8 +2,8 @@
 ghost use Rattle.std.specs.Prelude.{◌≡◌};
 ghost use Rattle.permits.specs.declared.pool.TheConstants.{PARTS};
 
+use crate::batches::MARK;
 use crate::times::{print_time, since};
-use crate::turns::MARK;
 use desk::{Desk, Totals};
 use permits::{PARTS, Pool};
 use spool::Vault;

@@ -2,11 +2,11 @@
 ghost use Rattle.std.specs.Prelude.{◌≡◌};
 ghost use Rattle.permits.specs.declared.pool.TheConstants.{PARTS};
 
+use crate::batches::{BATCH, MARK, commit_waiting, created};
 use crate::delivering::deliver;
 use crate::events::{body_of, id_of, name_of, put_of};
 use crate::failed::Failed;
 use crate::times::{Times, add, print_times, since};
-use crate::turns::{BATCH, MARK, created, turn};
 use desk::{Command, Desk};
 use permits::PARTS;
 use relay_types::Moment;
@@ -113,13 +113,13 @@ fn submit_all<L: Ledger, S: Alter>(
 ) -> Result<u64, Failed> {
     let now = Moment::of(1000)?;
     put_each(rt.alloc(), desk, plan.endpoints)?;
-    turn(rt, began, desk, vault, &mut Times::ZERO.submissions)?;
+    commit_waiting(rt, began, desk, vault, &mut Times::ZERO.submissions)?;
     for round in 0..plan.rounds {
         let from = round.saturating_mul(plan.pending);
         let upto = plan.events.min(from.saturating_add(plan.pending));
-        take_in(rt, began, desk, vault, plan.endpoints, (from, upto), times)?;
+        submit_and_commit(rt, began, desk, vault, plan.endpoints, (from, upto), times)?;
         disable_each(rt.alloc(), desk, plan.disabled)?;
-        turn(rt, began, desk, vault, &mut Times::ZERO.submissions)?;
+        commit_waiting(rt, began, desk, vault, &mut Times::ZERO.submissions)?;
         let posts = upto.saturating_sub(from).min(plan.posts);
         deliver(rt, began, desk, vault, (posts, now), times)?;
     }
@@ -149,7 +149,7 @@ fn disable_each<L: Ledger>(alloc: Global, desk: &mut Desk<L>, count: u32) -> Res
 }
 
 /// Submits the events with these numbers, and commits them 256 at a time.
-pub(crate) fn take_in<L: Ledger, S: Alter>(
+pub(crate) fn submit_and_commit<L: Ledger, S: Alter>(
     rt: &HostRuntime,
     began: Instant,
     desk: &mut Desk<L>,
@@ -168,7 +168,7 @@ pub(crate) fn take_in<L: Ledger, S: Alter>(
             (first, upto.min(first.saturating_add(BATCH))),
         )?;
         add(&mut times.staging, start, since(rt, began));
-        turn(rt, began, desk, vault, &mut times.submissions)?;
+        commit_waiting(rt, began, desk, vault, &mut times.submissions)?;
     }
     Ok(())
 }

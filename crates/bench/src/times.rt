@@ -4,7 +4,7 @@ use std::time::{Duration, Instant};
 
 /// Batches: the desk's sealing and settling, and the store's commits.
 #[derive(Clone, Copy)]
-pub(crate) struct Turns {
+pub(crate) struct BatchTimes {
     pub(crate) sealing: Duration,
     pub(crate) committing: Duration,
 }
@@ -15,16 +15,16 @@ pub(crate) struct Times {
     /// The submissions, with the making of their names, ids and bodies.
     pub(crate) staging: Duration,
     /// Their batches.
-    pub(crate) submissions: Turns,
+    pub(crate) submissions: BatchTimes,
     pub(crate) claiming: Duration,
     /// The claims of the first batch.
     pub(crate) first_claims: Duration,
     pub(crate) spending: Duration,
     /// The batches of the outcomes.
-    pub(crate) outcomes: Turns,
+    pub(crate) outcomes: BatchTimes,
 }
 
-const NO_TURNS: Turns = Turns {
+const NO_BATCHES: BatchTimes = BatchTimes {
     sealing: Duration::ZERO,
     committing: Duration::ZERO,
 };
@@ -32,11 +32,11 @@ const NO_TURNS: Turns = Turns {
 impl Times {
     pub(crate) const ZERO: Times = Times {
         staging: Duration::ZERO,
-        submissions: NO_TURNS,
+        submissions: NO_BATCHES,
         claiming: Duration::ZERO,
         first_claims: Duration::ZERO,
         spending: Duration::ZERO,
-        outcomes: NO_TURNS,
+        outcomes: NO_BATCHES,
     };
 }
 
@@ -56,18 +56,18 @@ pub(crate) fn add(total: &mut Duration, from: Duration, upto: Duration) {
 /// Prints what a run of submissions and posts took.
 pub(crate) fn print_times(rt: &HostRuntime, times: &Times) -> io::Result<()> {
     print_time(rt, "staging", times.staging)?;
-    print_turns(rt, "submissions", &times.submissions)?;
+    print_batches(rt, "submissions", &times.submissions)?;
     print_time(rt, "claiming", times.claiming)?;
     print_time(rt, "first claims", times.first_claims)?;
     print_time(rt, "spending", times.spending)?;
-    print_turns(rt, "outcomes", &times.outcomes)
+    print_batches(rt, "outcomes", &times.outcomes)
 }
 
-pub(crate) fn print_turns(rt: &HostRuntime, what: &str, turns: &Turns) -> io::Result<()> {
+pub(crate) fn print_batches(rt: &HostRuntime, what: &str, times: &BatchTimes) -> io::Result<()> {
     println!(rt;
         "{what} sealing {}\n{what} committing {}",
-        turns.sealing.as_micros(),
-        turns.committing.as_micros()
+        times.sealing.as_micros(),
+        times.committing.as_micros()
     )
 }
 

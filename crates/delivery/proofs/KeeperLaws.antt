@@ -17,13 +17,15 @@ use Rattle.spool.specs.Vaults.{VaultValue}
 use Rattle.delivery.specs.declared.committer.CommitterEnd.{CommitterEnd}
 use Rattle.delivery.specs.declared.committer.CommitterEnd.TheVariants.{Halted}
 use Rattle.delivery.specs.declared.committer.HaltCause.TheVariants as cause
-use Rattle.delivery.specs.Keepers.{AppendsBatches, EndsBy, Leaves, Stands, cause_of, records_in}
+use Rattle.delivery.specs.Keepers.{AppendsBatches, EndsAfterCommit, HistoryAfterCommit, HoldsAtEnd, cause_of}
+use Rattle.delivery.specs.Keepers.{records_in}
 use Rattle.delivery.specs.Logs.{CommittedValue, receipt_of}
 
 -- what a vault's commit leaves, as a keeper says it
 pub vault_leaves : {S : Type 0} (g : Ghosts S) (old new : VaultValue S) (batch : BatchValue)
     (result : Result BatchValue CommitEnd) → LeavesHistory g old new batch result
-    → Leaves (HoldsOnDisk g) (λ v records more. RestsInDoubt (state g v.conn) records more) old new batch result
+    → HistoryAfterCommit (HoldsOnDisk g) (λ v records more. RestsInDoubt (state g v.conn) records more)
+    old new batch result
 vault_leaves g old new batch (Ok receipt) h = λ records held. h records held.0
 vault_leaves g old new batch (Err (ends.Unchanged back reason)) h = λ records held. h records held.0
 vault_leaves g old new batch (Err (ends.Doubtful doubt reason)) h = λ records held. h records held.0
@@ -38,7 +40,8 @@ records_in-last (first ∷ batches) steps =
 -- a commit after which the committer goes on adds a whole batch, or nothing
 pub goes_on : {K : Type 0} (holds : K → List Record → Type 0) (in_doubt : K → List Record → List Record → Type 0)
     (old new : K) (batch : BatchValue) (result : Result BatchValue CommitEnd)
-    → EndsBy result None → Leaves holds in_doubt old new batch result → (records : List Record) (batches : List History)
+    → EndsAfterCommit result None → HistoryAfterCommit holds in_doubt old new batch result
+    → (records : List Record) (batches : List History)
     → holds old (records ++ records_in batches)
     → (more : List History) × holds new (records ++ records_in more)
 goes_on holds in_doubt old new batch (Ok receipt) e h records batches held =
@@ -59,7 +62,7 @@ module _ {K : Type 0} (holds : K → List Record → Type 0) (in_doubt : K → L
     (old new : K)
     (batch : BatchValue) where
   pub keeps_log : (ended : Result CommittedValue CommitEnd) (log now : List Record)
-      → EndsBy (receipt_of ended) None → Leaves holds in_doubt old new batch (receipt_of ended)
+      → EndsAfterCommit (receipt_of ended) None → HistoryAfterCommit holds in_doubt old new batch (receipt_of ended)
       → IfOk ended (λ committed. (now ≡ log ++ records_of batch.steps) × (committed.prefix ≡ now))
       → IfErr ended (λ _. now ≡ log)
       → (records : List Record) → holds old (records ++ log) → holds new (records ++ now)
@@ -77,31 +80,31 @@ module _ {K : Type 0} (holds : K → List Record → Type 0) (in_doubt : K → L
 module _ {K : Type 0} (holds : K → List Record → Type 0) (in_doubt : K → List Record → List Record → Type 0)
     (old new : K)
     (batch : BatchValue) where
-  pub ends_so : (ended : Result BatchValue CommitEnd) (end : CommitterEnd) → EndsBy ended (Some end)
-      → Leaves holds in_doubt old new batch ended → (records : List Record) → holds old records
-      → Stands holds in_doubt new records end
+  pub ends_so : (ended : Result BatchValue CommitEnd) (end : CommitterEnd) → EndsAfterCommit ended (Some end)
+      → HistoryAfterCommit holds in_doubt old new batch ended → (records : List Record) → holds old records
+      → HoldsAtEnd holds in_doubt new records end
   ends_so (Ok receipt) end e leaves records held = absurd cc
   ends_so (Err (ends.Unchanged back why.OutOfMemory)) end e leaves records held =
       ⊎_elim (λ no. absurd cc) (λ (is : Some end ≡ Some (Halted cause.OutOfMemory)). stands (cc is)) e
     where
-      stands : end ≡ Halted cause.OutOfMemory → Stands holds in_doubt new records end
-      stands is = subst (Stands holds in_doubt new records) (sym is) (leaves records held)
+      stands : end ≡ Halted cause.OutOfMemory → HoldsAtEnd holds in_doubt new records end
+      stands is = subst (HoldsAtEnd holds in_doubt new records) (sym is) (leaves records held)
   ends_so (Err (ends.Unchanged back why.Closed)) end e leaves records held =
-      let is : end ≡ Halted cause.Closed = cc e in subst (Stands holds in_doubt new records) (sym is)
+      let is : end ≡ Halted cause.Closed = cc e in subst (HoldsAtEnd holds in_doubt new records) (sym is)
       (leaves records held)
   ends_so (Err (ends.Unchanged back why.OutOfTurn)) end e leaves records held =
-      let is : end ≡ Halted cause.OutOfTurn = cc e in subst (Stands holds in_doubt new records) (sym is)
+      let is : end ≡ Halted cause.OutOfTurn = cc e in subst (HoldsAtEnd holds in_doubt new records) (sym is)
       (leaves records held)
   ends_so (Err (ends.Unchanged back why.Illegal)) end e leaves records held =
-      let is : end ≡ Halted cause.Illegal = cc e in subst (Stands holds in_doubt new records) (sym is)
+      let is : end ≡ Halted cause.Illegal = cc e in subst (HoldsAtEnd holds in_doubt new records) (sym is)
       (leaves records held)
   ends_so (Err (ends.Doubtful doubt reason)) end e leaves records held =
       let is : end ≡ Halted (cause.Store reason) = cc e in
-      subst (Stands holds in_doubt new records) (sym is) (batch.steps, leaves records held)
+      subst (HoldsAtEnd holds in_doubt new records) (sym is) (batch.steps, leaves records held)
 
 -- a commit that changed nothing ends a committer for its cause
 pub ends_unchanged : (batch : BatchValue) (reason : Unchanged) (end : CommitterEnd) → end ≡ Halted (cause_of reason)
-    → EndsBy (Err (ends.Unchanged batch reason)) (Some end)
+    → EndsAfterCommit (Err (ends.Unchanged batch reason)) (Some end)
 ends_unchanged batch why.OutOfMemory end is = inr (ap (λ (e : CommitterEnd). Some e) is)
 ends_unchanged batch why.Closed end is = ap (λ (e : CommitterEnd). Some e) is
 ends_unchanged batch why.OutOfTurn end is = ap (λ (e : CommitterEnd). Some e) is

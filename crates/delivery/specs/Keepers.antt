@@ -16,24 +16,25 @@ use Rattle.delivery.specs.declared.committer.Next.TheVariants as next
 
 module _ {K : Type 0} (holds : K → List Record → Type 0) (in_doubt : K → List Record → List Record → Type 0) where
   -- Of each history that was held: a commit adds the batch's records, or nothing; of a doubtful one nobody knows.
-  abbrev pub Leaves : (old new : K) → BatchValue → Result BatchValue CommitEnd → Type 0
-  Leaves old new batch (Ok receipt) =
+  abbrev pub HistoryAfterCommit : (old new : K) → BatchValue → Result BatchValue CommitEnd → Type 0
+  HistoryAfterCommit old new batch (Ok receipt) =
       (records : List Record) → holds old records → holds new (records ++ records_of batch.steps)
-  Leaves old new batch (Err (ends.Unchanged back reason)) =
+  HistoryAfterCommit old new batch (Err (ends.Unchanged back reason)) =
       (records : List Record) → holds old records → holds new records
-  Leaves old new batch (Err (ends.Doubtful doubt reason)) =
+  HistoryAfterCommit old new batch (Err (ends.Doubtful doubt reason)) =
       (records : List Record) → holds old records → in_doubt new records (records_of batch.steps)
 
   -- what is held at the end: the history, and if the store was at fault perhaps other records after it
-  abbrev pub Stands : K → List Record → CommitterEnd → Type 0
-  Stands new records (Halted (cause.Store error)) = (last : History) × in_doubt new records (records_of last)
-  Stands new records _ = holds new records
+  abbrev pub HoldsAtEnd : K → List Record → CommitterEnd → Type 0
+  HoldsAtEnd new records (Halted (cause.Store error)) = (last : History) × in_doubt new records (records_of last)
+  HoldsAtEnd new records _ = holds new records
 
 -- the number of the next record: a batch that is committed begins with it
 module _ {K : Type 0} (next : K → ℕ) where
-  abbrev pub Counts : (old new : K) → BatchValue → Result BatchValue CommitEnd → Type 0
-  Counts old new batch (Ok receipt) = (batch.from ≡ next old) × (next new ≡ next old + length (records_of batch.steps))
-  Counts old new batch (Err end) = next new ≡ next old
+  abbrev pub AdvancesNext : (old new : K) → BatchValue → Result BatchValue CommitEnd → Type 0
+  AdvancesNext old new batch (Ok receipt) =
+      (batch.from ≡ next old) × (next new ≡ next old + length (records_of batch.steps))
+  AdvancesNext old new batch (Err end) = next new ≡ next old
 
 -- the records of these histories, one after another
 abbrev pub records_in : (batches : List History) → List Record
@@ -42,9 +43,9 @@ records_in (steps ∷ batches) = records_of steps ++ records_in batches
 
 module _ {K : Type 0} (holds : K → List Record → Type 0) (in_doubt : K → List Record → List Record → Type 0) where
   -- Each history that was held is held at the end, followed by other records or by none.
-  abbrev pub Adds : (old new : K) → CommitterEnd → Type 0
-  Adds old new end = (records : List Record) → holds old records
-      → (batches : List History) × Stands holds in_doubt new (records ++ records_in batches) end
+  abbrev pub AddsRecords : (old new : K) → CommitterEnd → Type 0
+  AddsRecords old new end = (records : List Record) → holds old records
+      → (batches : List History) × HoldsAtEnd holds in_doubt new (records ++ records_in batches) end
 
 -- the log is what it was before, followed by other records or by none
 abbrev pub AppendsBatches : (log now : List Record) → Type 0
@@ -54,7 +55,7 @@ module _ {K : Type 0} (holds : K → List Record → Type 0) (in_doubt : K → L
   -- If the keeper held some records and the log before, it holds these and the log now.
   abbrev pub KeepsLog : (old : K) (log : List Record) (new : K) (now : List Record) → CommitterEnd → Type 0
   KeepsLog old log new now end =
-      (records : List Record) → holds old (records ++ log) → Stands holds in_doubt new (records ++ now) end
+      (records : List Record) → holds old (records ++ log) → HoldsAtEnd holds in_doubt new (records ++ now) end
 
 -- As what a commit that changed nothing ends a committer.
 abbrev pub cause_of : Unchanged → HaltCause
@@ -64,13 +65,14 @@ cause_of why.Illegal = cause.Illegal
 cause_of why.OutOfMemory = cause.OutOfMemory
 
 -- How a committer ends after a commit, if it ends. If an allocation failed, it may go on.
-abbrev pub EndsBy : Result BatchValue CommitEnd → Option CommitterEnd → Type 0
-EndsBy (Ok receipt) end = end ≡ None
-EndsBy (Err (ends.Unchanged batch why.OutOfMemory)) end = (end ≡ None) ⊎ (end ≡ Some (Halted cause.OutOfMemory))
-EndsBy (Err (ends.Unchanged batch why.Closed)) end = end ≡ Some (Halted cause.Closed)
-EndsBy (Err (ends.Unchanged batch why.OutOfTurn)) end = end ≡ Some (Halted cause.OutOfTurn)
-EndsBy (Err (ends.Unchanged batch why.Illegal)) end = end ≡ Some (Halted cause.Illegal)
-EndsBy (Err (ends.Doubtful doubt error)) end = end ≡ Some (Halted (cause.Store error))
+abbrev pub EndsAfterCommit : Result BatchValue CommitEnd → Option CommitterEnd → Type 0
+EndsAfterCommit (Ok receipt) end = end ≡ None
+EndsAfterCommit (Err (ends.Unchanged batch why.OutOfMemory)) end =
+    (end ≡ None) ⊎ (end ≡ Some (Halted cause.OutOfMemory))
+EndsAfterCommit (Err (ends.Unchanged batch why.Closed)) end = end ≡ Some (Halted cause.Closed)
+EndsAfterCommit (Err (ends.Unchanged batch why.OutOfTurn)) end = end ≡ Some (Halted cause.OutOfTurn)
+EndsAfterCommit (Err (ends.Unchanged batch why.Illegal)) end = end ≡ Some (Halted cause.Illegal)
+EndsAfterCommit (Err (ends.Doubtful doubt error)) end = end ≡ Some (Halted (cause.Store error))
 
 -- the end names a fault of the store, or a keeper that takes no batch any more
 abbrev pub IsOfKeeper : CommitterEnd → Type 0

@@ -1,6 +1,6 @@
 pub mod Logs
 pub mod Keepers
-pub mod Shares
-pub mod Sharing
+pub mod LockedState
+pub mod SharedLog
 pub mod Rounds
-pub mod Turns
+pub mod DeskAnswers

@@ -1,7 +1,7 @@
 //! The committer, who alone has the keeper, and moves batches between the lock and the keeper.
 ghost use Rattle.std.specs.Prelude.{◌≡◌, IsTrue};
 ghost use Rattle.delivery.specs.Logs.{receipt_of};
-ghost use Rattle.delivery.specs.Keepers.{Adds, AppendsBatches, EndsBy, IsOfKeeper, KeepsLog, cause_of};
+ghost use Rattle.delivery.specs.Keepers.{AddsRecords, AppendsBatches, EndsAfterCommit, IsOfKeeper, KeepsLog, cause_of};
 
 use crate::keeper::Keeper;
 use crate::locked::Ended;
@@ -62,7 +62,7 @@ pub fn committer_run<L: Ledger, I: LogId, K: Keeper + Drop, R: Wait + Clock>(
     shared: &Shared<L, I>,
     logged: LoggedKeeper<I, K>,
 ) -> (LoggedKeeper<I, K>, Ended)
-    ensures rows { K.is_clean result.0.keeper → Adds K.holds K.in_doubt logged.keeper result.0.keeper result.1 }
+    ensures rows { K.is_clean result.0.keeper → AddsRecords K.holds K.in_doubt logged.keeper result.0.keeper result.1 }
     ensures logged { K.is_clean result.0.keeper
         → KeepsLog K.holds K.in_doubt logged.keeper logged.writer result.0.keeper result.0.writer result.1 }
     ensures appended { AppendsBatches logged.writer result.0.writer }
@@ -80,7 +80,7 @@ pub fn committer_run<L: Ledger, I: LogId, K: Keeper + Drop, R: Wait + Clock>(
                 }
             }
             Next::Refused => {
-                if is_last(&mut refusals) {
+                if count_refusal(&mut refusals) {
                     let ended = shared.halt(rt, Held::Nothing, HaltCause::OutOfMemory);
                     return (logged, ended);
                 }
@@ -92,8 +92,8 @@ pub fn committer_run<L: Ledger, I: LogId, K: Keeper + Drop, R: Wait + Clock>(
     unreachable!()
 }
 
-// One more refusal for memory: whether it is the last that is borne.
-fn is_last(refusals: &mut u32) -> bool {
+// Counts one more refusal for memory, and returns whether it is the last that is borne.
+fn count_refusal(refusals: &mut u32) -> bool {
     *refusals = refusals.saturating_add(1);
     *refusals >= MAX_REFUSALS
 }
@@ -111,7 +111,7 @@ fn hand_in<L: Ledger, I: LogId, R: Wait + Clock>(
     ended: Result<Committed<I>, CommitEnd>,
     refusals: &mut u32,
 ) -> Option<Ended>
-    ensures { EndsBy (receipt_of ended) result }
+    ensures { EndsAfterCommit (receipt_of ended) result }
 {
     match ended {
         Ok(committed) => {
@@ -119,7 +119,7 @@ fn hand_in<L: Ledger, I: LogId, R: Wait + Clock>(
             *refusals = 0;
             None
         }
-        Err(CommitEnd::Unchanged(batch, Unchanged::OutOfMemory)) if !is_last(refusals) => {
+        Err(CommitEnd::Unchanged(batch, Unchanged::OutOfMemory)) if !count_refusal(refusals) => {
             shared.unseal(rt, batch);
             pause(rt);
             None

@@ -16,7 +16,8 @@ ghost use Rattle.delivery.specs.Logs.{HasChange, HasSettled, IsOfCommand, entry_
 ghost use Rattle.delivery.specs.Keepers.{EndsByDesk};
 ghost use Rattle.delivery.specs.declared.committer.CommitterEnd.TheVariants.{Halted};
 ghost use Rattle.delivery.specs.Rounds.{EndsUnposted, ReportsAtEnd};
-ghost use Rattle.delivery.specs.Turns.{claimed_by, halted, next_by, refused, round_of, went_back};
+ghost use Rattle.delivery.specs.DeskAnswers.{claimed_of, closing_refusal, next_after_refusal, next_after_seal};
+ghost use Rattle.delivery.specs.DeskAnswers.{round_of, went_back};
 
 use crate::committer::{CommitterEnd, HaltCause, Next};
 use crate::logged_keeper::Committed;
@@ -45,7 +46,7 @@ pub struct Locked<L: Ledger, I: LogId> {
 
 impl<L: Ledger, I: LogId> Model for Locked<L, I> {
     ghost use Rattle.delivery.specs.Logs.{HasRecords};
-    ghost use Rattle.delivery.specs.Shares.{LockedValue};
+    ghost use Rattle.delivery.specs.LockedState.{LockedValue};
 
     ghost Value = { LockedValue };
 
@@ -145,7 +146,7 @@ impl<L: Ledger, I: LogId> Locked<L, I> {
             → IsMove self.old.desk (λ w. submit w now name id body) result self.new.desk }
         ensures ticket { IfOk result (λ given. (given.name ≡ name) × (given.id ≡ id)) }
         ensures names { IfErr result (λ why. IsTrue (may_refuse_event why.fault)) }
-        ensures closing { IsTrue self.old.closing → result ≡ Err halted }
+        ensures closing { IsTrue self.old.closing → result ≡ Err closing_refusal }
         ensures flag { self.new.closing ≡ self.old.closing }
         ensures err { OnErr result (self.new ≡ self.old) }
     {
@@ -173,7 +174,7 @@ impl<L: Ledger, I: LogId> Locked<L, I> {
         ensures event { IfOk result (λ given. (given.topic ≡ topic) × (given.id ≡ id)
             × (given.prefix ≡ self.new.staged)) }
         ensures names { IfErr result (λ why. IsTrue (may_refuse_publish why.fault)) }
-        ensures closing { IsTrue self.old.closing → result ≡ Err halted }
+        ensures closing { IsTrue self.old.closing → result ≡ Err closing_refusal }
         ensures flag { self.new.closing ≡ self.old.closing }
         ensures err { OnErr result (self.new ≡ self.old) }
     {
@@ -194,7 +195,7 @@ impl<L: Ledger, I: LogId> Locked<L, I> {
             → IsMove self.old.desk (λ w. change w command) (ticket_of result) self.new.desk }
         ensures change { IfOk result (λ change. IsOfCommand change command) }
         ensures names { IfErr result (λ why. IsTrue (may_refuse command why.fault)) }
-        ensures closing { IsTrue self.old.closing → result ≡ Err halted }
+        ensures closing { IsTrue self.old.closing → result ≡ Err closing_refusal }
         ensures flag { self.new.closing ≡ self.old.closing }
         ensures err { OnErr result (self.new ≡ self.old) }
     {
@@ -229,7 +230,7 @@ impl<L: Ledger, I: LogId> Locked<L, I> {
         ensures closing { pass.old ≤ self.old.desk.waiting.settled → IsTrue self.old.closing
             → (result ≡ Claimed.RoundOver Round.Closing) × (self.new ≡ self.old) }
         ensures moves { pass.old ≤ self.old.desk.waiting.settled → self.old.closing ≡ false
-            → (reply : Result (Option JobValue) Refusal) × (result ≡ claimed_by reply)
+            → (reply : Result (Option JobValue) Refusal) × (result ≡ claimed_of reply)
             × IsMove self.old.desk (λ w. claim w now) reply self.new.desk }
         ensures nothing { EndsUnposted result }
         ensures reports { ReportsAtEnd pass.old pass.new result }
@@ -242,7 +243,7 @@ impl<L: Ledger, I: LogId> Locked<L, I> {
         if self.is_closing {
             return Claimed::RoundOver(Round::Closing);
         }
-        claimed_by(self.desk.claim(now))
+        claimed_of(self.desk.claim(now))
     }
 
     pub(crate) fn spend(
@@ -314,13 +315,13 @@ impl<L: Ledger, I: LogId> Locked<L, I> {
     // What the committer does next: `None` if nothing waits and the end wasn't asked for, or another committer has a
     // batch.
     pub(crate) fn next_batch(&mut self) -> Option<Next>
-        ensures moves { (reply : Result (Option BatchValue) Refusal) × (result ≡ next_by self.old.closing reply)
+        ensures moves { (reply : Result (Option BatchValue) Refusal) × (result ≡ next_after_seal self.old.closing reply)
             × IsMove self.old.desk (seal self.old.desk.waiting.mark) reply self.new.desk }
         ensures end { IfSome result EndsByDesk }
         ensures asked { result ≡ Some (Next.End CommitterEnd.Finished) → IsTrue self.old.closing }
         ensures flag { self.new.closing ≡ self.old.closing }
     {
-        next_by(self.is_closing, self.desk.seal())
+        next_after_seal(self.is_closing, self.desk.seal())
     }
 
     pub(crate) fn settle(
@@ -402,8 +403,8 @@ impl<L: Ledger, I: LogId> Locked<L, I> {
 }
 
 // What a claim's answer is to a round.
-fn claimed_by<L: Ledger>(claimed: Result<Option<Job<L>>, Refusal>) -> Claimed<L>
-    ensures value { result ≡ claimed_by claimed }
+fn claimed_of<L: Ledger>(claimed: Result<Option<Job<L>>, Refusal>) -> Claimed<L>
+    ensures value { result ≡ claimed_of claimed }
     ensures nothing { EndsUnposted result }
     ensures reports { (seen now : ℕ) → ReportsAtEnd seen now result }
 {
@@ -426,8 +427,8 @@ fn round_of(fault: Fault) -> Round
 }
 
 // What a seal's answer is to the committer.
-fn next_by(is_closing: bool, sealed: Result<Option<Batch>, Refusal>) -> Option<Next>
-    ensures value { result ≡ next_by is_closing sealed }
+fn next_after_seal(is_closing: bool, sealed: Result<Option<Batch>, Refusal>) -> Option<Next>
+    ensures value { result ≡ next_after_seal is_closing sealed }
     ensures end { IfSome result EndsByDesk }
     ensures asked { result ≡ Some (Next.End CommitterEnd.Finished) → IsTrue is_closing }
 {
@@ -437,13 +438,13 @@ fn next_by(is_closing: bool, sealed: Result<Option<Batch>, Refusal>) -> Option<N
             how: CommitterEnd::Finished,
         })),
         Ok(None) => None,
-        Err(refusal) => refused(refusal.fault),
+        Err(refusal) => next_after_refusal(refusal.fault),
     }
 }
 
 // What comes next where a seal is refused for this.
-fn refused(fault: Fault) -> Option<Next>
-    ensures value { result ≡ refused fault }
+fn next_after_refusal(fault: Fault) -> Option<Next>
+    ensures value { result ≡ next_after_refusal fault }
     ensures end { IfSome result EndsByDesk }
     ensures unfinished { result ≢ Some (Next.End CommitterEnd.Finished) }
 {

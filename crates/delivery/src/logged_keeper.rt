@@ -5,7 +5,7 @@ ghost use Rattle.relay_types.specs.Records.{records_of};
 ghost use Rattle.spool.specs.declared.faults.Unchanged.{Unchanged};
 ghost use Rattle.spool.specs.Commits.{HandsBack, IsDoubt};
 ghost use Rattle.delivery.specs.Logs.{receipt_of};
-ghost use Rattle.delivery.specs.Keepers.{Leaves};
+ghost use Rattle.delivery.specs.Keepers.{HistoryAfterCommit};
 
 use crate::keeper::Keeper;
 use run_log::{Log, LogId, LogWriter, Prefix};
@@ -68,7 +68,7 @@ impl<I: LogId, K: Keeper + Drop> LoggedKeeper<I, K> {
         ensures doubt { IsTrue (K.closed self.new.keeper)
             ↔ (IsTrue (K.closed self.old.keeper) ⊎ IsDoubt (receipt_of result)) }
         ensures history { K.is_clean self.new.keeper
-            → Leaves K.holds K.in_doubt self.old.keeper self.new.keeper batch (receipt_of result) }
+            → HistoryAfterCommit K.holds K.in_doubt self.old.keeper self.new.keeper batch (receipt_of result) }
     {
         match self.keeper.commit(batch) {
             Ok(receipt) => {

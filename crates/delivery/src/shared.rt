@@ -12,7 +12,7 @@ ghost use Rattle.desk.specs.declared.ticket.Told.TheVariants.{Waiting};
 ghost use Rattle.delivery.specs.Logs.{HasSettled, IsOfCommand};
 ghost use Rattle.delivery.specs.Keepers.{EndsByDesk};
 ghost use Rattle.delivery.specs.Rounds.{EndsUnposted, ReportsAtEnd};
-ghost use Rattle.delivery.specs.Sharing.{log_of};
+ghost use Rattle.delivery.specs.SharedLog.{log_of};
 ghost use Rattle.delivery.specs.declared.committer.CommitterEnd.TheVariants.{Halted};
 
 use crate::committer::{HaltCause, Next, pause};

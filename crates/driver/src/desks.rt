@@ -47,7 +47,10 @@ pub(crate) fn adopted<S: Alter + Drop>(alloc: Global, conn: Connection<S>) -> Op
 }
 
 /// Seals what waits, commits it and settles it. Whether all that was sealed is settled.
-pub(crate) fn turn<L: Ledger, S: Alter>(desk: &mut Desk<L>, vault: &mut Vault<S>) -> bool {
+pub(crate) fn commit_waiting<L: Ledger, S: Alter>(
+    desk: &mut Desk<L>,
+    vault: &mut Vault<S>,
+) -> bool {
     match desk.seal() {
         Ok(Some(batch)) => settle(desk, vault, batch),
         Ok(None) | Err(_) => true,

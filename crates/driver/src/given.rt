@@ -10,7 +10,7 @@ pub(crate) const SECRET: &[u8] = b"whsec_MDEyMzQ1Njc4OTAxMjM0NTY3ODkwMTIz";
 
 /// What is of a fixed size.
 #[derive(Clone, Copy)]
-pub(crate) struct Given {
+pub(crate) struct FixedValues {
     pub(crate) name: Name,
     pub(crate) other: Name,
     pub(crate) id: MsgId,
@@ -20,9 +20,9 @@ pub(crate) struct Given {
     pub(crate) secrets: Secrets,
 }
 
-pub(crate) fn values() -> Result<Given, Failed> {
+pub(crate) fn values() -> Result<FixedValues, Failed> {
     let secret = Secret::read(SECRET)?;
-    Ok(Given {
+    Ok(FixedValues {
         name: Name::read(b"a")?,
         other: Name::read(b"b")?,
         id: MsgId::read(b"msg_1")?,

@@ -142,7 +142,7 @@ const TRIES: u32 = 2;
 
 /// Why a call gave nothing.
 #[derive(Clone, Copy)]
-pub(crate) enum Told {
+pub(crate) enum CallError {
     /// Memory was refused.
     NoMemory,
     /// What is opened isn't the relay's.
@@ -151,72 +151,72 @@ pub(crate) enum Told {
     Other,
 }
 
-impl fmt::Display for Told {
+impl fmt::Display for CallError {
     fn fmt<W: fmt::Write>(&self, f: &mut fmt::Formatter<W>) -> fmt::Result {
         f.write_str(match self {
-            Told::NoMemory => "OutOfMemory",
-            Told::NotOurs => "NotOurs",
-            Told::Other => "other",
+            CallError::NoMemory => "OutOfMemory",
+            CallError::NotOurs => "NotOurs",
+            CallError::Other => "other",
         })
     }
 }
 
-impl From<AllocError> for Told {
-    fn from(_: AllocError) -> Told {
-        Told::NoMemory
+impl From<AllocError> for CallError {
+    fn from(_: AllocError) -> CallError {
+        CallError::NoMemory
     }
 }
 
-impl From<ReadFault> for Told {
-    fn from(fault: ReadFault) -> Told {
+impl From<ReadFault> for CallError {
+    fn from(fault: ReadFault) -> CallError {
         match fault {
-            ReadFault::OutOfMemory => Told::NoMemory,
-            _ => Told::Other,
+            ReadFault::OutOfMemory => CallError::NoMemory,
+            _ => CallError::Other,
         }
     }
 }
 
-impl From<WordFault> for Told {
-    fn from(fault: WordFault) -> Told {
+impl From<WordFault> for CallError {
+    fn from(fault: WordFault) -> CallError {
         match fault {
-            WordFault::OutOfMemory => Told::NoMemory,
-            WordFault::Bad => Told::Other,
+            WordFault::OutOfMemory => CallError::NoMemory,
+            WordFault::Bad => CallError::Other,
         }
     }
 }
 
-impl From<StreamFault> for Told {
-    fn from(fault: StreamFault) -> Told {
+impl From<StreamFault> for CallError {
+    fn from(fault: StreamFault) -> CallError {
         match fault {
-            StreamFault::OutOfMemory => Told::NoMemory,
-            _ => Told::Other,
+            StreamFault::OutOfMemory => CallError::NoMemory,
+            _ => CallError::Other,
         }
     }
 }
 
-impl From<OpenFault> for Told {
-    fn from(fault: OpenFault) -> Told {
+impl From<OpenFault> for CallError {
+    fn from(fault: OpenFault) -> CallError {
         match fault {
-            OpenFault::NotOurs => Told::NotOurs,
-            OpenFault::OutOfMemory => Told::NoMemory,
-            _ => Told::Other,
+            OpenFault::NotOurs => CallError::NotOurs,
+            OpenFault::OutOfMemory => CallError::NoMemory,
+            _ => CallError::Other,
         }
     }
 }
 
-impl From<LoadFault> for Told {
-    fn from(fault: LoadFault) -> Told {
+impl From<LoadFault> for CallError {
+    fn from(fault: LoadFault) -> CallError {
         match fault {
-            LoadFault::OutOfMemory => Told::NoMemory,
-            _ => Told::Other,
+            LoadFault::OutOfMemory => CallError::NoMemory,
+            _ => CallError::Other,
         }
     }
 }
 
 /// A call that can be made again.
-pub(crate) trait Attempt {
+pub(crate) trait RepeatableCall {
     /// Makes the call: a number of what it gave, or why it gave nothing.
-    fn attempt(&mut self, rt: &HostRuntime) -> Result<u64, Told>;
+    fn attempt(&mut self, rt: &HostRuntime) -> Result<u64, CallError>;
 
     /// A number that tells what stands.
     fn state(&self) -> u64 {
@@ -225,10 +225,10 @@ pub(crate) trait Attempt {
 }
 
 /// Makes the call twice, and prints what it told each time, and what stands after it. Whether it was made.
-pub(crate) fn try_twice<A: Attempt>(rt: &HostRuntime, attempts: &mut A) -> io::Result<bool> {
+pub(crate) fn try_twice<A: RepeatableCall>(rt: &HostRuntime, attempts: &mut A) -> io::Result<bool> {
     println!(rt; "stands {}", attempts.state())?;
     for _ in 0..TRIES {
-        if !is_marked(rt)? {
+        if !read_mark(rt)? {
             return Ok(false);
         }
         let told = attempts.attempt(rt);
@@ -238,7 +238,7 @@ pub(crate) fn try_twice<A: Attempt>(rt: &HostRuntime, attempts: &mut A) -> io::R
 }
 
 /// The same over what was made for it.
-pub(crate) fn try_made<A: Attempt + Drop>(
+pub(crate) fn try_made<A: RepeatableCall + Drop>(
     rt: &HostRuntime,
     made: Result<A, Failed>,
 ) -> io::Result<bool> {
@@ -249,13 +249,13 @@ pub(crate) fn try_made<A: Attempt + Drop>(
 }
 
 // Waits for the next byte. Whether there is one.
-fn is_marked(rt: &HostRuntime) -> io::Result<bool> {
+fn read_mark(rt: &HostRuntime) -> io::Result<bool> {
     let mut mark = [0; 1];
     let count = rt.stdin().read(&mut mark)?;
     Ok(count > 0)
 }
 
-fn print_told(rt: &HostRuntime, told: Result<u64, Told>, stands: u64) -> io::Result<()> {
+fn print_told(rt: &HostRuntime, told: Result<u64, CallError>, stands: u64) -> io::Result<()> {
     match told {
         Ok(number) => println!(rt; "done {number} stands {stands}"),
         Err(told) => println!(rt; "{told} stands {stands}"),

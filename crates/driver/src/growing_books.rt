@@ -1,7 +1,7 @@
 //! Calls that stage in a book, or reserve in the claim queue.
 use crate::failed::Failed;
-use crate::given::{Given, body_of, target_of};
-use crate::growing::{Attempt, Told, try_made, try_twice};
+use crate::given::{FixedValues, body_of, target_of};
+use crate::growing::{CallError, RepeatableCall, try_made, try_twice};
 use claim_queue::ClaimQueue;
 use delivery_book::DeliveryBook;
 use endpoint_book::EndpointBook;
@@ -21,8 +21,8 @@ pub(crate) enum BookCall {
     Subscribe,
 }
 
-impl Attempt for ClaimQueue {
-    fn attempt(&mut self, _: &HostRuntime) -> Result<u64, Told> {
+impl RepeatableCall for ClaimQueue {
+    fn attempt(&mut self, _: &HostRuntime) -> Result<u64, CallError> {
         let name = Name::read(b"a")?;
         self.reserve(name, 1)?;
         Ok(self.free_places(name) as u64)
@@ -33,13 +33,13 @@ impl Attempt for ClaimQueue {
 #[derive(Drop)]
 struct Deliveries {
     call: BookCall,
-    given: Given,
+    given: FixedValues,
     book: DeliveryBook,
     body: Body,
 }
 
-impl Attempt for Deliveries {
-    fn attempt(&mut self, _: &HostRuntime) -> Result<u64, Told> {
+impl RepeatableCall for Deliveries {
+    fn attempt(&mut self, _: &HostRuntime) -> Result<u64, CallError> {
         match self.call {
             BookCall::Accept => accept(&mut self.book, &self.given, &self.body),
             _ => accept_both(&mut self.book, &self.given, &self.body),
@@ -51,23 +51,27 @@ impl Attempt for Deliveries {
     }
 }
 
-fn accept(book: &mut DeliveryBook, given: &Given, body: &Body) -> Result<u64, Told> {
+fn accept(book: &mut DeliveryBook, given: &FixedValues, body: &Body) -> Result<u64, CallError> {
     let seq = book.next_seq();
     if seq >= MAX_RECORDS || book.find(given.name, &given.id).is_some() {
-        return Err(Told::Other);
+        return Err(CallError::Other);
     }
     book.stage_accept(seq, given.name, given.id, body.share()?, given.at)?;
     Ok(seq)
 }
 
-fn accept_both(book: &mut DeliveryBook, given: &Given, body: &Body) -> Result<u64, Told> {
+fn accept_both(
+    book: &mut DeliveryBook,
+    given: &FixedValues,
+    body: &Body,
+) -> Result<u64, CallError> {
     let names = [given.name, given.other];
     let seq = book.next_seq();
     if MAX_RECORDS - 2 < seq || given.name == given.other {
-        return Err(Told::Other);
+        return Err(CallError::Other);
     }
     if book.find(given.name, &given.id).is_some() || book.find(given.other, &given.id).is_some() {
-        return Err(Told::Other);
+        return Err(CallError::Other);
     }
     book.stage_accepts(seq, &names, given.id, body, given.at)?;
     Ok(seq)
@@ -77,13 +81,13 @@ fn accept_both(book: &mut DeliveryBook, given: &Given, body: &Body) -> Result<u6
 #[derive(Drop)]
 struct Endpoints {
     call: BookCall,
-    given: Given,
+    given: FixedValues,
     book: EndpointBook,
     target: Target,
 }
 
-impl Attempt for Endpoints {
-    fn attempt(&mut self, rt: &HostRuntime) -> Result<u64, Told> {
+impl RepeatableCall for Endpoints {
+    fn attempt(&mut self, rt: &HostRuntime) -> Result<u64, CallError> {
         match self.call {
             BookCall::Put => put(&mut self.book, &self.given, &self.target),
             BookCall::Subscribe => subscribe(&mut self.book, &self.given),
@@ -96,20 +100,20 @@ impl Attempt for Endpoints {
     }
 }
 
-fn put(book: &mut EndpointBook, given: &Given, target: &Target) -> Result<u64, Told> {
+fn put(book: &mut EndpointBook, given: &FixedValues, target: &Target) -> Result<u64, CallError> {
     let seq = book.next_seq();
     if seq >= MAX_RECORDS || book.contains(given.name) {
-        return Err(Told::Other);
+        return Err(CallError::Other);
     }
     book.stage_put(seq, given.name, target.share()?, given.max, given.secrets)?;
     Ok(seq)
 }
 
 // The endpoint's topic has the name of the other one.
-fn subscribe(book: &mut EndpointBook, given: &Given) -> Result<u64, Told> {
+fn subscribe(book: &mut EndpointBook, given: &FixedValues) -> Result<u64, CallError> {
     let seq = book.next_seq();
     if seq >= MAX_RECORDS || book.free_subscriptions() == 0 {
-        return Err(Told::Other);
+        return Err(CallError::Other);
     }
     book.stage_subscribed(seq, given.other, given.name, true)?;
     Ok(seq)
@@ -119,9 +123,9 @@ fn subscribe(book: &mut EndpointBook, given: &Given) -> Result<u64, Told> {
 fn over_restored(
     alloc: Global,
     call: BookCall,
-    given: &Given,
+    given: &FixedValues,
     target: &Target,
-) -> Result<u64, Told> {
+) -> Result<u64, CallError> {
     let mut book = restored(alloc, given, target)?;
     match call {
         BookCall::RestoreTopic => restore_topic(&mut book, given),
@@ -130,10 +134,14 @@ fn over_restored(
     }
 }
 
-fn restored(alloc: Global, given: &Given, target: &Target) -> Result<EndpointBook, Told> {
+fn restored(
+    alloc: Global,
+    given: &FixedValues,
+    target: &Target,
+) -> Result<EndpointBook, CallError> {
     let mut book = EndpointBook::new(alloc)?;
     if book.next_seq() > 0 || book.contains(given.name) {
-        return Err(Told::Other);
+        return Err(CallError::Other);
     }
     book.restore(
         0,
@@ -146,25 +154,25 @@ fn restored(alloc: Global, given: &Given, target: &Target) -> Result<EndpointBoo
     Ok(book)
 }
 
-fn restore_topic(book: &mut EndpointBook, given: &Given) -> Result<u64, Told> {
+fn restore_topic(book: &mut EndpointBook, given: &FixedValues) -> Result<u64, CallError> {
     if book.free_subscriptions() == 0 {
-        return Err(Told::Other);
+        return Err(CallError::Other);
     }
     book.restore_subscribed(given.other, given.name, true)?;
     Ok(book.len() as u64)
 }
 
 // To an endpoint that is settled. Behind one that waits, a book has room for them.
-fn give(book: &mut EndpointBook, given: &Given) -> Result<u64, Told> {
+fn give(book: &mut EndpointBook, given: &FixedValues) -> Result<u64, CallError> {
     let seq = book.next_seq();
     if seq >= MAX_RECORDS || !book.contains(given.name) {
-        return Err(Told::Other);
+        return Err(CallError::Other);
     }
     book.stage_secrets(seq, given.name, given.secrets)?;
     Ok(seq)
 }
 
-fn deliveries_of(alloc: Global, call: BookCall, given: Given) -> Result<Deliveries, Failed> {
+fn deliveries_of(alloc: Global, call: BookCall, given: FixedValues) -> Result<Deliveries, Failed> {
     let body = body_of(alloc)?;
     let book = DeliveryBook::new(alloc);
     Ok(Deliveries {
@@ -175,7 +183,7 @@ fn deliveries_of(alloc: Global, call: BookCall, given: Given) -> Result<Deliveri
     })
 }
 
-fn endpoints_of(alloc: Global, call: BookCall, given: Given) -> Result<Endpoints, Failed> {
+fn endpoints_of(alloc: Global, call: BookCall, given: FixedValues) -> Result<Endpoints, Failed> {
     let target = target_of(alloc)?;
     let book = EndpointBook::new(alloc)?;
     Ok(Endpoints {
@@ -187,7 +195,7 @@ fn endpoints_of(alloc: Global, call: BookCall, given: Given) -> Result<Endpoints
 }
 
 /// Makes the call. Whether it was made.
-pub(crate) fn try_book(rt: &HostRuntime, call: BookCall, given: Given) -> io::Result<bool> {
+pub(crate) fn try_book(rt: &HostRuntime, call: BookCall, given: FixedValues) -> io::Result<bool> {
     let alloc = rt.alloc();
     match call {
         BookCall::Accept | BookCall::Accepts => try_made(rt, deliveries_of(alloc, call, given)),

@@ -3,10 +3,10 @@ ghost use Rattle.std.specs.Prelude.{◌≡◌, ⊤, List};
 ghost use Rattle.permits.specs.declared.pool.TheConstants.{PARTS};
 ghost use Rattle.relay_types.specs.declared.record.Record.{Record};
 
-use crate::desks::{created, turn};
+use crate::desks::{commit_waiting, created};
 use crate::failed::Failed;
-use crate::given::{Given, body_of, target_of};
-use crate::growing::{Attempt, Told, try_twice};
+use crate::given::{FixedValues, body_of, target_of};
+use crate::growing::{CallError, RepeatableCall, try_twice};
 use crate::growing_replies::reply_told;
 use delivery::{Clock, Pass, Round, Shared, request_of, worker_round};
 use desk::{Command, Desk, Post};
@@ -61,22 +61,22 @@ pub(crate) enum SharedCall {
 struct Pages<'a, L: Ledger> {
     call: PageCall,
     desk: &'a Desk<L>,
-    given: Given,
+    given: FixedValues,
 }
 
-impl<L: Ledger> Attempt for Pages<'_, L> {
-    fn attempt(&mut self, rt: &HostRuntime) -> Result<u64, Told> {
+impl<L: Ledger> RepeatableCall for Pages<'_, L> {
+    fn attempt(&mut self, rt: &HostRuntime) -> Result<u64, CallError> {
         let (alloc, name, id) = (rt.alloc(), self.given.name, self.given.id);
         match self.call {
             PageCall::Endpoint => page_told(alloc, self.desk, Asked::Endpoint(name)),
             PageCall::EndpointText => match self.desk.endpoint_page(name) {
                 Some(page) => Ok(endpoint_text(alloc, &page)?.len() as u64),
-                None => Err(Told::Other),
+                None => Err(CallError::Other),
             },
             PageCall::Event => page_told(alloc, self.desk, Asked::Event(name, id)),
             PageCall::EventText => match self.desk.event_page(name, &id) {
                 Some(row) => Ok(event_text(alloc, &row)?.len() as u64),
-                None => Err(Told::Other),
+                None => Err(CallError::Other),
             },
             PageCall::Totals => page_told(alloc, self.desk, Asked::Totals),
             PageCall::TotalsText => Ok(totals_text(alloc, &self.desk.totals())?.len() as u64),
@@ -88,9 +88,9 @@ impl<L: Ledger> Attempt for Pages<'_, L> {
     }
 }
 
-fn page_told<L: Ledger>(alloc: Global, desk: &Desk<L>, asked: Asked) -> Result<u64, Told> {
+fn page_told<L: Ledger>(alloc: Global, desk: &Desk<L>, asked: Asked) -> Result<u64, CallError> {
     if !asked.asks_for_page() {
-        return Err(Told::Other);
+        return Err(CallError::Other);
     }
     reply_told(&page_reply(alloc, desk, &asked))
 }
@@ -102,12 +102,12 @@ struct Audit<'v, 'd, L: Ledger, S: Alter> {
     desk: &'d Desk<L>,
 }
 
-impl<L: Ledger, S: Alter> Attempt for Audit<'_, '_, L, S> {
-    fn attempt(&mut self, rt: &HostRuntime) -> Result<u64, Told> {
+impl<L: Ledger, S: Alter> RepeatableCall for Audit<'_, '_, L, S> {
+    fn attempt(&mut self, rt: &HostRuntime) -> Result<u64, CallError> {
         match audit(rt.alloc(), self.vault, self.desk) {
             Ok(()) => Ok(self.vault.next()),
-            Err(AuditFault::OutOfMemory) => Err(Told::NoMemory),
-            Err(_) => Err(Told::Other),
+            Err(AuditFault::OutOfMemory) => Err(CallError::NoMemory),
+            Err(_) => Err(CallError::Other),
         }
     }
 
@@ -150,12 +150,12 @@ struct Sharer<'w, 's, L: Ledger, I: LogId, R: Wait> {
     wait: &'w R,
     call: SharedCall,
     shared: &'s Shared<L, I>,
-    given: Given,
+    given: FixedValues,
     pass: Pass,
 }
 
-impl<L: Ledger, I: LogId, R: Wait> Attempt for Sharer<'_, '_, L, I, R> {
-    fn attempt(&mut self, rt: &HostRuntime) -> Result<u64, Told> {
+impl<L: Ledger, I: LogId, R: Wait> RepeatableCall for Sharer<'_, '_, L, I, R> {
+    fn attempt(&mut self, rt: &HostRuntime) -> Result<u64, CallError> {
         let alloc = rt.alloc();
         match self.call {
             SharedCall::GetEndpoint => self.ask(alloc, b"GET", b"/v1/endpoints/a", &[]),
@@ -190,7 +190,7 @@ impl<L: Ledger, I: LogId, R: Wait> Sharer<'_, '_, L, I, R> {
         method: &'x [u8],
         path: &'x [u8],
         ids: &'x [&'x [u8]],
-    ) -> Result<u64, Told> {
+    ) -> Result<u64, CallError> {
         let ask = Ask {
             method,
             path,
@@ -202,14 +202,14 @@ impl<L: Ledger, I: LogId, R: Wait> Sharer<'_, '_, L, I, R> {
         reply_told(&answered.reply)
     }
 
-    fn work(&mut self, alloc: Global) -> Result<u64, Told> {
+    fn work(&mut self, alloc: Global) -> Result<u64, CallError> {
         let clock = Standing(self.given.at);
         let pass = &mut self.pass;
         match worker_round(self.wait, alloc, self.shared, &Answering, &clock, pass) {
             Round::Posted { .. } => Ok(1),
             Round::Idle => Ok(0),
-            Round::NoMemory => Err(Told::NoMemory),
-            _ => Err(Told::Other),
+            Round::NoMemory => Err(CallError::NoMemory),
+            _ => Err(CallError::Other),
         }
     }
 }
@@ -220,11 +220,11 @@ struct Building<'a> {
     post: &'a Post,
 }
 
-impl Attempt for Building<'_> {
-    fn attempt(&mut self, rt: &HostRuntime) -> Result<u64, Told> {
+impl RepeatableCall for Building<'_> {
+    fn attempt(&mut self, rt: &HostRuntime) -> Result<u64, CallError> {
         match request_of(rt.alloc(), self.post) {
             Ok(outgoing) => Ok(u64::from(outgoing.port())),
-            Err(_) => Err(Told::NoMemory),
+            Err(_) => Err(CallError::NoMemory),
         }
     }
 
@@ -252,7 +252,7 @@ fn share<L: Ledger, R: Wait>(
     wait: &R,
     call: SharedCall,
     desk: Desk<L>,
-    given: Given,
+    given: FixedValues,
 ) -> io::Result<bool> {
     match (NewLog::new(rt.alloc()), NewLog::new(rt.alloc())) {
         (Ok(new_log), Ok(new_staged)) => {
@@ -270,7 +270,7 @@ fn share_named<L: Ledger, I: LogId, R: Wait>(
     new_log: NewLog,
     new_staged: NewLog,
     desk: Desk<L>,
-    given: Given,
+    given: FixedValues,
 ) -> io::Result<bool>
     requires table { new_log ≡ I.table }
     requires staged { new_staged ≡ I.staged }
@@ -292,7 +292,7 @@ fn share_named<L: Ledger, I: LogId, R: Wait>(
 }
 
 // An endpoint, subscribed to a topic of its name, and an event.
-fn stage<L: Ledger>(alloc: Global, desk: &mut Desk<L>, given: &Given) -> Result<(), Failed> {
+fn stage<L: Ledger>(alloc: Global, desk: &mut Desk<L>, given: &FixedValues) -> Result<(), Failed> {
     let name = given.name;
     desk.command(Command::PutEndpoint {
         name,
@@ -310,13 +310,13 @@ fn stage<L: Ledger>(alloc: Global, desk: &mut Desk<L>, given: &Given) -> Result<
 }
 
 // These are committed and settled.
-fn is_filled<L: Ledger, S: Alter>(
+fn fill_desk<L: Ledger, S: Alter>(
     alloc: Global,
     desk: &mut Desk<L>,
     vault: &mut Vault<S>,
-    given: &Given,
+    given: &FixedValues,
 ) -> bool {
-    stage(alloc, desk, given).is_ok() && turn(desk, vault) && desk.settled_records() == 3
+    stage(alloc, desk, given).is_ok() && commit_waiting(desk, vault) && desk.settled_records() == 3
 }
 
 fn with_desk<L: Ledger, S: Alter, R: Wait>(
@@ -325,9 +325,9 @@ fn with_desk<L: Ledger, S: Alter, R: Wait>(
     call: DeskCall,
     mut desk: Desk<L>,
     vault: &mut Vault<S>,
-    given: Given,
+    given: FixedValues,
 ) -> io::Result<bool> {
-    if !is_filled(rt.alloc(), &mut desk, vault, &given) {
+    if !fill_desk(rt.alloc(), &mut desk, vault, &given) {
         return Ok(false);
     }
     match call {
@@ -351,7 +351,7 @@ fn with_blank<L: Ledger, S: Alter + Drop, R: Wait>(
     blank: Blank,
     call: DeskCall,
     conn: Connection<S>,
-    given: Given,
+    given: FixedValues,
 ) -> io::Result<bool>
     requires name { blank.name ≡ L.name }
     requires parts { blank.parts ≡ L.parts }
@@ -368,7 +368,7 @@ pub(crate) fn try_desk<R: Wait>(
     rt: &HostRuntime,
     wait: &R,
     call: DeskCall,
-    given: Given,
+    given: FixedValues,
 ) -> io::Result<bool> {
     match Connection::open_in_memory(rt.alloc()) {
         Ok(conn) => with_blank::<Brand, MemStore, R>(

@@ -3,8 +3,8 @@ ghost use Rattle.std.specs.Prelude.{◌≡◌};
 ghost use Rattle.permits.specs.declared.pool.TheConstants.{PARTS};
 
 use crate::desks::MARK;
-use crate::given::Given;
-use crate::growing::{Attempt, Told, try_twice};
+use crate::given::FixedValues;
+use crate::growing::{CallError, RepeatableCall, try_twice};
 use claim_queue::ClaimQueue;
 use delivery_book::DeliveryBook;
 use desk::Desk;
@@ -34,11 +34,11 @@ pub(crate) enum MakeCall {
 #[derive(Clone, Copy)]
 struct Makes {
     call: MakeCall,
-    given: Given,
+    given: FixedValues,
 }
 
-impl Attempt for Makes {
-    fn attempt(&mut self, rt: &HostRuntime) -> Result<u64, Told> {
+impl RepeatableCall for Makes {
+    fn attempt(&mut self, rt: &HostRuntime) -> Result<u64, CallError> {
         let alloc = rt.alloc();
         match self.call {
             MakeCall::Deliveries => Ok(DeliveryBook::new(alloc).next_seq()),
@@ -53,7 +53,7 @@ impl Attempt for Makes {
     }
 }
 
-fn new_pool<L: Ledger>(alloc: Global, blank: Blank) -> Result<u64, Told>
+fn new_pool<L: Ledger>(alloc: Global, blank: Blank) -> Result<u64, CallError>
     requires name { blank.name ≡ L.name }
     requires parts { blank.parts ≡ L.parts }
     requires enough { blank.parts ≡ PARTS }
@@ -61,7 +61,7 @@ fn new_pool<L: Ledger>(alloc: Global, blank: Blank) -> Result<u64, Told>
     Ok(Pool::<L>::new(alloc, blank)?.live() as u64)
 }
 
-fn new_desk<L: Ledger>(alloc: Global, blank: Blank) -> Result<u64, Told>
+fn new_desk<L: Ledger>(alloc: Global, blank: Blank) -> Result<u64, CallError>
     requires name { blank.name ≡ L.name }
     requires parts { blank.parts ≡ L.parts }
     requires enough { blank.parts ≡ PARTS }
@@ -69,13 +69,13 @@ fn new_desk<L: Ledger>(alloc: Global, blank: Blank) -> Result<u64, Told>
     Ok(Desk::<L>::new(alloc, blank, MARK)?.records())
 }
 
-fn new_log(alloc: Global) -> Result<u64, Told> {
+fn new_log(alloc: Global) -> Result<u64, CallError> {
     match NewLog::new(alloc) {
         Ok(new_log) => {
             end_log::<Brand>(new_log);
             Ok(0)
         }
-        Err(refused) => Err(Told::from(refused)),
+        Err(refused) => Err(CallError::from(refused)),
     }
 }
 
@@ -87,6 +87,6 @@ fn end_log<I: LogId>(new_log: NewLog)
 }
 
 /// Makes the call. Whether it was made.
-pub(crate) fn try_make(rt: &HostRuntime, call: MakeCall, given: Given) -> io::Result<bool> {
+pub(crate) fn try_make(rt: &HostRuntime, call: MakeCall, given: FixedValues) -> io::Result<bool> {
     try_twice(rt, &mut Makes { call, given })
 }

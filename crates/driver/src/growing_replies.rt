@@ -1,6 +1,6 @@
 //! Calls that read a request, or make a reply.
-use crate::given::Given;
-use crate::growing::{Attempt, Told, try_twice};
+use crate::given::FixedValues;
+use crate::growing::{CallError, RepeatableCall, try_twice};
 use desk::Ticket;
 use intake_shed::{
     Ask, AskBody, Asked, Reply, accepted_reply, change_reply, published_reply, read_ask,
@@ -25,11 +25,11 @@ pub(crate) enum ReplyCall {
 #[derive(Clone, Copy)]
 struct Replies {
     call: ReplyCall,
-    given: Given,
+    given: FixedValues,
 }
 
-impl Attempt for Replies {
-    fn attempt(&mut self, rt: &HostRuntime) -> Result<u64, Told> {
+impl RepeatableCall for Replies {
+    fn attempt(&mut self, rt: &HostRuntime) -> Result<u64, CallError> {
         let alloc = rt.alloc();
         let id = self.given.id;
         match self.call {
@@ -47,14 +47,14 @@ impl Attempt for Replies {
 }
 
 /// The status of a reply other than that of a failed allocation.
-pub(crate) fn reply_told(reply: &Reply) -> Result<u64, Told> {
+pub(crate) fn reply_told(reply: &Reply) -> Result<u64, CallError> {
     if reply.status != 503 {
         return Ok(u64::from(reply.status));
     }
     if reply.retry && reply.body.as_str() == "{\"error\":\"OutOfMemory\"}" {
-        return Err(Told::NoMemory);
+        return Err(CallError::NoMemory);
     }
-    Err(Told::Other)
+    Err(CallError::Other)
 }
 
 fn ask_told<'x>(
@@ -63,7 +63,7 @@ fn ask_told<'x>(
     path: &'x [u8],
     body: &'x [u8],
     id: MsgId,
-) -> Result<u64, Told> {
+) -> Result<u64, CallError> {
     let ask = Ask {
         method,
         path,
@@ -73,12 +73,12 @@ fn ask_told<'x>(
     match read_ask(alloc, &ask, id) {
         Ok(Asked::Change(_)) => Ok(1),
         Ok(Asked::Post { .. }) => Ok(2),
-        Ok(_) => Err(Told::Other),
+        Ok(_) => Err(CallError::Other),
         Err(reply) => reply_told(&reply),
     }
 }
 
 /// Makes the call. Whether it was made.
-pub(crate) fn try_reply(rt: &HostRuntime, call: ReplyCall, given: Given) -> io::Result<bool> {
+pub(crate) fn try_reply(rt: &HostRuntime, call: ReplyCall, given: FixedValues) -> io::Result<bool> {
     try_twice(rt, &mut Replies { call, given })
 }

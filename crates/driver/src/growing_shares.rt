@@ -1,13 +1,13 @@
 //! Calls on values that are made before.
 use crate::failed::Failed;
-use crate::given::{Given, body_of, target_of};
-use crate::growing::{Attempt, Told, try_made};
+use crate::given::{FixedValues, body_of, target_of};
+use crate::growing::{CallError, RepeatableCall, try_made};
 use crate::growing_texts::PUT;
 use drill::Event;
 use hmac_signer::signature_header;
 use relay_types::{Body, Record, Step, Target};
 use script_lines::{Call, read_call};
-use sound_rows::{Attempt as AttemptRow, Delivery, Endpoint, Numbers, Topic};
+use sound_rows::{Attempt, Delivery, Endpoint, Numbers, Topic};
 use std::alloc::{AllocError, Global};
 use std::io;
 
@@ -24,49 +24,49 @@ pub(crate) enum ShareCall {
     Target,
 }
 
-fn done<T: Drop>(shared: Result<T, AllocError>) -> Result<u64, Told> {
+fn done<T: Drop>(shared: Result<T, AllocError>) -> Result<u64, CallError> {
     let _same = shared?;
     Ok(0)
 }
 
-impl Attempt for Body {
-    fn attempt(&mut self, _: &HostRuntime) -> Result<u64, Told> {
+impl RepeatableCall for Body {
+    fn attempt(&mut self, _: &HostRuntime) -> Result<u64, CallError> {
         Ok(self.share()?.as_bytes().len() as u64)
     }
 }
 
-impl Attempt for Target {
-    fn attempt(&mut self, _: &HostRuntime) -> Result<u64, Told> {
+impl RepeatableCall for Target {
+    fn attempt(&mut self, _: &HostRuntime) -> Result<u64, CallError> {
         Ok(u64::from(self.share()?.port()))
     }
 }
 
-impl Attempt for Record {
-    fn attempt(&mut self, _: &HostRuntime) -> Result<u64, Told> {
+impl RepeatableCall for Record {
+    fn attempt(&mut self, _: &HostRuntime) -> Result<u64, CallError> {
         done(self.share())
     }
 }
 
-impl Attempt for Step {
-    fn attempt(&mut self, _: &HostRuntime) -> Result<u64, Told> {
+impl RepeatableCall for Step {
+    fn attempt(&mut self, _: &HostRuntime) -> Result<u64, CallError> {
         done(self.share())
     }
 }
 
-impl Attempt for Call {
-    fn attempt(&mut self, _: &HostRuntime) -> Result<u64, Told> {
+impl RepeatableCall for Call {
+    fn attempt(&mut self, _: &HostRuntime) -> Result<u64, CallError> {
         done(self.share())
     }
 }
 
-impl Attempt for Event {
-    fn attempt(&mut self, _: &HostRuntime) -> Result<u64, Told> {
+impl RepeatableCall for Event {
+    fn attempt(&mut self, _: &HostRuntime) -> Result<u64, CallError> {
         done(self.share())
     }
 }
 
-impl Attempt for Numbers {
-    fn attempt(&mut self, rt: &HostRuntime) -> Result<u64, Told> {
+impl RepeatableCall for Numbers {
+    fn attempt(&mut self, rt: &HostRuntime) -> Result<u64, CallError> {
         Ok(u64::from(self.are_sound(rt.alloc())?))
     }
 }
@@ -74,13 +74,13 @@ impl Attempt for Numbers {
 /// An event that is signed.
 #[derive(Drop)]
 struct Signed {
-    given: Given,
+    given: FixedValues,
     body: Body,
 }
 
-impl Attempt for Signed {
-    fn attempt(&mut self, rt: &HostRuntime) -> Result<u64, Told> {
-        let Given {
+impl RepeatableCall for Signed {
+    fn attempt(&mut self, rt: &HostRuntime) -> Result<u64, CallError> {
+        let FixedValues {
             secrets,
             id,
             at,
@@ -93,30 +93,30 @@ impl Attempt for Signed {
 /// An event at two endpoints.
 #[derive(Drop)]
 struct Published {
-    given: Given,
+    given: FixedValues,
     body: Body,
 }
 
-impl Attempt for Published {
+impl RepeatableCall for Published {
     // How many records the step has.
-    fn attempt(&mut self, rt: &HostRuntime) -> Result<u64, Told> {
+    fn attempt(&mut self, rt: &HostRuntime) -> Result<u64, CallError> {
         let names = [self.given.name, self.given.other];
         let step = Step::event(rt.alloc(), &names, self.given.id, &self.body, self.given.at)?;
         Ok(step.records().len() as u64)
     }
 }
 
-fn signed_of(alloc: Global, given: Given) -> Result<Signed, Failed> {
+fn signed_of(alloc: Global, given: FixedValues) -> Result<Signed, Failed> {
     let body = body_of(alloc)?;
     Ok(Signed { given, body })
 }
 
-fn published_of(alloc: Global, given: Given) -> Result<Published, Failed> {
+fn published_of(alloc: Global, given: FixedValues) -> Result<Published, Failed> {
     let body = body_of(alloc)?;
     Ok(Published { given, body })
 }
 
-fn record_of(alloc: Global, given: Given) -> Result<Record, Failed> {
+fn record_of(alloc: Global, given: FixedValues) -> Result<Record, Failed> {
     let target = target_of(alloc)?;
     Ok(Record::Put {
         name: given.name,
@@ -126,7 +126,7 @@ fn record_of(alloc: Global, given: Given) -> Result<Record, Failed> {
     })
 }
 
-fn step_of(alloc: Global, given: Given) -> Result<Step, Failed> {
+fn step_of(alloc: Global, given: FixedValues) -> Result<Step, Failed> {
     let record = record_of(alloc, given)?;
     Ok(Step::of(record))
 }
@@ -151,7 +151,7 @@ fn numbers_of(alloc: Global) -> Result<Numbers, Failed> {
         enabled_by: 0,
         secrets_by: 0,
     };
-    let attempt = AttemptRow {
+    let attempt = Attempt {
         seq: 2,
         delivery: 1,
         number: 1,
@@ -175,7 +175,7 @@ fn numbers_of(alloc: Global) -> Result<Numbers, Failed> {
 }
 
 /// Makes the call. Whether it was made.
-pub(crate) fn try_share(rt: &HostRuntime, call: ShareCall, given: Given) -> io::Result<bool> {
+pub(crate) fn try_share(rt: &HostRuntime, call: ShareCall, given: FixedValues) -> io::Result<bool> {
     let alloc = rt.alloc();
     match call {
         ShareCall::AreSound => try_made(rt, numbers_of(alloc)),

@@ -3,7 +3,7 @@ ghost use Rattle.std.specs.Prelude.{◌≡◌, false};
 ghost use Rattle.permits.specs.declared.pool.TheConstants.{PARTS};
 
 use crate::desks::{MARK, adopted};
-use crate::growing::{Attempt, Told, try_twice};
+use crate::growing::{CallError, RepeatableCall, try_twice};
 use crate::opening::opened_at;
 use desk::Desk;
 use permits::{PARTS, Pool};
@@ -49,13 +49,13 @@ struct Opening<S: Alter + Drop> {
     conn: Option<Connection<S>>,
 }
 
-impl<S: Alter + Drop> Attempt for Opening<S> {
-    fn attempt(&mut self, rt: &HostRuntime) -> Result<u64, Told> {
+impl<S: Alter + Drop> RepeatableCall for Opening<S> {
+    fn attempt(&mut self, rt: &HostRuntime) -> Result<u64, CallError> {
         let Some(conn) = self.conn.take() else {
-            return Err(Told::Other);
+            return Err(CallError::Other);
         };
         if !conn.is_autocommit() {
-            return Err(Told::Other);
+            return Err(CallError::Other);
         }
         match opened(rt.alloc(), self.call, conn) {
             Ok(records) => Ok(records),
@@ -122,8 +122,8 @@ fn records_of<L: Ledger, S: Alter + Drop>(
     Ok(desk.records())
 }
 
-impl<S: Alter> Attempt for Vault<S> {
-    fn attempt(&mut self, rt: &HostRuntime) -> Result<u64, Told> {
+impl<S: Alter> RepeatableCall for Vault<S> {
+    fn attempt(&mut self, rt: &HostRuntime) -> Result<u64, CallError> {
         Ok(self.load(rt.alloc())?.records)
     }
 
@@ -199,8 +199,8 @@ struct Path {
     path: String,
 }
 
-impl Attempt for Path {
-    fn attempt(&mut self, rt: &HostRuntime) -> Result<u64, Told> {
+impl RepeatableCall for Path {
+    fn attempt(&mut self, rt: &HostRuntime) -> Result<u64, CallError> {
         let path = self.path.clone()?;
         Ok(opened_at(rt, path)?.records)
     }

@@ -1,6 +1,6 @@
 //! Calls that read or write texts.
-use crate::given::{Given, SECRET, URL};
-use crate::growing::{Attempt, Told, try_twice};
+use crate::given::{FixedValues, SECRET, URL};
+use crate::growing::{CallError, RepeatableCall, try_twice};
 use relay_types::{MaxLimit, Moment, MsgId, Name, Secret, Secrets, Target};
 use script_lines::{read_call, read_line};
 use std::alloc::Global;
@@ -39,8 +39,8 @@ struct Texts {
     secret: Secret,
 }
 
-impl Attempt for Texts {
-    fn attempt(&mut self, rt: &HostRuntime) -> Result<u64, Told> {
+impl RepeatableCall for Texts {
+    fn attempt(&mut self, rt: &HostRuntime) -> Result<u64, CallError> {
         let alloc = rt.alloc();
         match self.call {
             TextCall::Call => call_told(alloc),
@@ -62,18 +62,18 @@ impl Attempt for Texts {
     }
 }
 
-fn line_told(alloc: Global) -> Result<u64, Told> {
+fn line_told(alloc: Global) -> Result<u64, CallError> {
     let _line = read_line(alloc, PUT)?;
     Ok(0)
 }
 
-fn call_told(alloc: Global) -> Result<u64, Told> {
+fn call_told(alloc: Global) -> Result<u64, CallError> {
     let _call = read_call(alloc, PUT)?;
     Ok(0)
 }
 
 // Each reader that takes no memory: how many secrets were read.
-fn read_all() -> Result<u64, Told> {
+fn read_all() -> Result<u64, CallError> {
     let (_name, _id) = (Name::read(b"a")?, MsgId::read(b"msg_1")?);
     let (_max, _most) = (MaxLimit::of(1)?, read_max(b"1")?);
     let (_at, _later) = (Moment::of(1)?, read_moment(b"1")?);
@@ -83,7 +83,7 @@ fn read_all() -> Result<u64, Told> {
 }
 
 // A line of new lines, since those that were refused answer Read from then on.
-fn advance_told(alloc: Global) -> Result<u64, Told> {
+fn advance_told(alloc: Global) -> Result<u64, CallError> {
     let mut input: &[u8] = b"seal\n";
     let mut lines = Lines::new(alloc)?;
     lines.advance(&mut input)?;
@@ -91,7 +91,7 @@ fn advance_told(alloc: Global) -> Result<u64, Told> {
 }
 
 /// Makes the call. Whether it was made.
-pub(crate) fn try_text(rt: &HostRuntime, call: TextCall, given: Given) -> io::Result<bool> {
+pub(crate) fn try_text(rt: &HostRuntime, call: TextCall, given: FixedValues) -> io::Result<bool> {
     let secret = given.secret;
     try_twice(rt, &mut Texts { call, secret })
 }

@@ -8,7 +8,7 @@ use std::io;
 
 /// What books have of endpoint `a` and of the event with number 1; nothing of it where there is no such event.
 #[derive(Clone, Copy)]
-struct Told {
+struct LoadedCounts {
     records: u64,
     clock: u64,
     enabled: bool,
@@ -34,22 +34,27 @@ pub(crate) fn print_loads<S: Alter + Drop>(
 fn loaded_twice<S: Alter + Drop>(
     alloc: Global,
     conn: Connection<S>,
-) -> Option<(Result<Told, LoadFault>, Result<Told, LoadFault>)> {
+) -> Option<
+    (
+        Result<LoadedCounts, LoadFault>,
+        Result<LoadedCounts, LoadFault>,
+    ),
+> {
     match adopted(alloc, conn) {
         Some(mut vault) => Some((load(alloc, &mut vault), load(alloc, &mut vault))),
         None => None,
     }
 }
 
-fn load<S: Alter>(alloc: Global, vault: &mut Vault<S>) -> Result<Told, LoadFault> {
+fn load<S: Alter>(alloc: Global, vault: &mut Vault<S>) -> Result<LoadedCounts, LoadFault> {
     match vault.load(alloc) {
         Ok(books) => Ok(told_of(&books)),
         Err(fault) => Err(fault),
     }
 }
 
-fn told_of(books: &Books) -> Told {
-    let mut told = Told {
+fn told_of(books: &Books) -> LoadedCounts {
+    let mut told = LoadedCounts {
         records: books.records,
         clock: books.clock.seconds(),
         enabled: false,
@@ -68,7 +73,7 @@ fn told_of(books: &Books) -> Told {
     told
 }
 
-fn print_load(rt: &HostRuntime, load: &Result<Told, LoadFault>) -> io::Result<()> {
+fn print_load(rt: &HostRuntime, load: &Result<LoadedCounts, LoadFault>) -> io::Result<()> {
     match load {
         Ok(told) => println!(rt;
             "records {} clock {} enabled {} secrets {} attempts {} due {}",

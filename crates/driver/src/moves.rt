@@ -27,14 +27,18 @@ fn name_of(number: u64) -> Result<Name, Failed> {
 
 /// A delivery that the queue holds.
 #[derive(Clone, Copy)]
-struct Held {
+struct QueuedDelivery {
     endpoint: Name,
     due: u64,
     seq: u64,
 }
 
 /// Holds the delivery, where its endpoint has a free place and its number is new.
-fn insert(queue: &mut ClaimQueue, held: &mut Vec<Held>, one: Held) -> Result<(), Failed> {
+fn insert(
+    queue: &mut ClaimQueue,
+    held: &mut Vec<QueuedDelivery>,
+    one: QueuedDelivery,
+) -> Result<(), Failed> {
     if queue.free_places(one.endpoint) == 0 || !queue.is_new(one.seq) {
         return Ok(());
     }
@@ -46,9 +50,9 @@ fn insert(queue: &mut ClaimQueue, held: &mut Vec<Held>, one: Held) -> Result<(),
 }
 
 /// Takes a delivery in, with a place for it where its endpoint has none.
-fn take_in(
+fn insert_next(
     queue: &mut ClaimQueue,
-    held: &mut Vec<Held>,
+    held: &mut Vec<QueuedDelivery>,
     number: u64,
     seq: u64,
 ) -> Result<(), Failed> {
@@ -57,11 +61,11 @@ fn take_in(
     if queue.free_places(endpoint) == 0 {
         queue.reserve(endpoint, 1 + (number >> 40) as usize % 8)?;
     }
-    insert(queue, held, Held { endpoint, due, seq })
+    insert(queue, held, QueuedDelivery { endpoint, due, seq })
 }
 
 /// Lets one of those that are held go.
-fn let_one_go(queue: &mut ClaimQueue, held: &mut Vec<Held>, number: u64) {
+fn remove_one(queue: &mut ClaimQueue, held: &mut Vec<QueuedDelivery>, number: u64) {
     if held.is_empty() {
         return;
     }
@@ -84,14 +88,14 @@ fn set_room(queue: &mut ClaimQueue, number: u64) -> Result<(), Failed> {
 /// Makes the move of a number: what it inserts has this sequence number.
 fn make_move(
     queue: &mut ClaimQueue,
-    held: &mut Vec<Held>,
+    held: &mut Vec<QueuedDelivery>,
     number: u64,
     seq: u64,
 ) -> Result<(), Failed> {
     match number >> 61 {
-        0..=3 => take_in(queue, held, number, seq),
+        0..=3 => insert_next(queue, held, number, seq),
         4 | 5 => {
-            let_one_go(queue, held, number);
+            remove_one(queue, held, number);
             Ok(())
         }
         _ => set_room(queue, number),
@@ -108,7 +112,7 @@ fn print_next(rt: &HostRuntime, queue: &ClaimQueue, now: u64) -> io::Result<()> 
 fn move_all(
     rt: &HostRuntime,
     queue: &mut ClaimQueue,
-    held: &mut Vec<Held>,
+    held: &mut Vec<QueuedDelivery>,
     seed: u64,
     count: u64,
 ) -> io::Result<bool> {

@@ -12,7 +12,7 @@ ghost use Rattle.std.specs.Prelude.{◌≡◌};
 ghost use Rattle.permits.specs.declared.pool.TheConstants.{PARTS};
 
 use crate::asking::{Call, Request, read_call};
-use crate::desks::{created, turn};
+use crate::desks::{commit_waiting, created};
 use desk::{Command, Desk, Refusal};
 use group_commit::Held;
 use intake_shed::{Ask, AskBody, Asked, Reply, SubmitError, page_reply, read_ask, refusal_reply};
@@ -78,7 +78,7 @@ impl<L: Ledger, S: Alter + Drop> Relay<L, S> {
     }
 
     fn turn(&mut self, alloc: Global) -> Result<String, AllocError> {
-        if turn(&mut self.desk, &mut self.vault) {
+        if commit_waiting(&mut self.desk, &mut self.vault) {
             format!(in alloc; "settled {}", self.desk.settled_records())
         } else {
             format!(in alloc; "failed")

@@ -31,7 +31,7 @@ static LINES: &[&str] = &[
 
 /// What the run was told that had its memory, and whether it was the second one.
 #[derive(Drop)]
-struct Told {
+struct RunReplies {
     replies: Vec<Reply>,
     is_second: bool,
 }
@@ -53,7 +53,7 @@ pub(crate) fn print_runs<S: Alter + Drop>(
     Ok(true)
 }
 
-fn told_over<S: Alter + Drop>(alloc: Global, conn: Connection<S>) -> Option<Told> {
+fn told_over<S: Alter + Drop>(alloc: Global, conn: Connection<S>) -> Option<RunReplies> {
     match events_of(alloc) {
         Ok(events) => told_of::<Brand, S>(alloc, Blank::new(PARTS), conn, &events),
         Err(Failed) => None,
@@ -76,7 +76,7 @@ fn told_of<L: Ledger, S: Alter + Drop>(
     blank: Blank,
     conn: Connection<S>,
     events: &[Event],
-) -> Option<Told>
+) -> Option<RunReplies>
     requires name { blank.name ≡ L.name }
     requires parts { blank.parts ≡ L.parts }
     requires enough { blank.parts ≡ PARTS }
@@ -93,12 +93,12 @@ fn run_once_or_twice<L: Ledger, S: Alter + Drop>(
     desk: Desk<L>,
     vault: Vault<S>,
     events: &[Event],
-) -> Option<Told>
+) -> Option<RunReplies>
     requires out { HasNothingOut desk }
     requires mark { desk.waiting.mark ≡ vault.mark }
 {
     match run(alloc, desk, vault, events) {
-        Ok(world) => Some(Told {
+        Ok(world) => Some(RunReplies {
             replies: closed(world),
             is_second: false,
         }),
@@ -111,12 +111,12 @@ fn run_again<L: Ledger, S: Alter + Drop>(
     desk: Desk<L>,
     vault: Vault<S>,
     events: &[Event],
-) -> Option<Told>
+) -> Option<RunReplies>
     requires out { HasNothingOut desk }
     requires mark { desk.waiting.mark ≡ vault.mark }
 {
     match run(alloc, desk, vault, events) {
-        Ok(world) => Some(Told {
+        Ok(world) => Some(RunReplies {
             replies: closed(world),
             is_second: true,
         }),

@@ -19,10 +19,10 @@ use Rattle.intake_shed.specs.declared.ask.AskBody.TheVariants.{Whole, TooLong}
 use Rattle.intake_shed.specs.declared.reply.Reply.{Reply}
 use Rattle.relay_host.specs.Fresh.{IsMadeId}
 use Rattle.hyper_intake.specs.Responses.{IsNotImplemented, Responds}
-use Rattle.hyper_intake.specs.Shown.{is_coded, path_shown, values_shown}
+use Rattle.hyper_intake.specs.Shown.{has_unknown_coding, path_shown, values_shown}
 
 -- what is asked by this head and this body
-pub record IsShown (head : Parts) (sent : AskBody) (ask : Ask) : Type 0 where
+pub record IsAskOf (head : Parts) (sent : AskBody) (ask : Ask) : Type 0 where
   pub method : ask.method.now ≡ head.method
   pub path : ask.path.now ≡ path_shown head.uri
   pub ids : map (λ id. id.now) ask.ids.now ≡ values_shown head.headers (codes "webhook-id")
@@ -32,7 +32,7 @@ pub record IsShown (head : Parts) (sent : AskBody) (ask : Ask) : Type 0 where
 -- lacking.
 abbrev pub RepliesTo : Parts → AskBody → Reply → Type 0
 RepliesTo head body reply = OrOutOfMemory ((ask : Ask) × (fresh : Text) × (seen : ℕ) × (given : Option AckValue)
-    × (published : Option PublishAckValue) × (confirmed : Option ChangeValue) × IsShown head body ask × IsMadeId fresh
+    × (published : Option PublishAckValue) × (confirmed : Option ChangeValue) × IsAskOf head body ask × IsMadeId fresh
     × (IsRefusal ask reply ⊎ AnswersAsk ask fresh seen reply given published confirmed)) reply
 
 -- the body that came of it: whole, or longer than it may be; of one that was cut there is none
@@ -46,6 +46,6 @@ IsBodyOf (Err (Body error)) body = ⊥
 -- known it is one of its own.
 abbrev pub IsResponseTo : Parts → Result Collected (LimitedError Error) → Response (Full (List ℕ)) → Type 0
 IsResponseTo head gathered response =
-    ((is_coded head.headers ≡ true) × IsNotImplemented response)
-    ⊎ ((is_coded head.headers ≡ false) × (reply : Reply) × Responds reply response
+    ((has_unknown_coding head.headers ≡ true) × IsNotImplemented response)
+    ⊎ ((has_unknown_coding head.headers ≡ false) × (reply : Reply) × Responds reply response
     × OrOutOfMemory ((body : AskBody) × IsBodyOf gathered body × RepliesTo head body reply) reply)

@@ -21,5 +21,6 @@ abbrev pub is_chunked : (coding : List ℕ) → Bool
 is_chunked coding = bytes_eq (map to_ascii_lowercase coding) (codes "chunked")
 
 -- one of the codings isn't chunks
-abbrev pub is_coded : Entries FieldValue → Bool
-is_coded headers = list_any (λ coding. not (is_chunked coding)) (values_shown headers (codes "transfer-encoding"))
+abbrev pub has_unknown_coding : Entries FieldValue → Bool
+has_unknown_coding headers =
+    list_any (λ coding. not (is_chunked coding)) (values_shown headers (codes "transfer-encoding"))

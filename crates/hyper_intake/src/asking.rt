@@ -4,7 +4,7 @@ ghost use Rattle.hyper.specs.declared.error.Error.{Error};
 ghost use Rattle.http_body_util.specs.Collected.{collected_bytes};
 ghost use Rattle.http_body_util.specs.declared.limited.LimitedError.TheVariants.{LengthLimit, Body};
 ghost use Rattle.hyper_intake.specs.Asking.{RepliesTo};
-ghost use Rattle.hyper_intake.specs.Shown.{is_chunked, is_coded, path_shown, values_shown};
+ghost use Rattle.hyper_intake.specs.Shown.{is_chunked, has_unknown_coding, path_shown, values_shown};
 ghost use Rattle.hyper_intake.specs.declared.asking.BodyRead.TheVariants.{Whole, TooLong, NoMemory, Cut};
 
 use bytes::Bytes;
@@ -116,8 +116,8 @@ fn ids_of(alloc: Global, headers: &HeaderMap) -> Result<Vec<&[u8]>, AllocError>
 }
 
 // Whether the body was sent in another coding than chunks, of which nothing is known here (RFC 9112, section 6.1).
-pub(crate) fn is_coded(headers: &HeaderMap) -> bool
-    ensures { result ≡ is_coded headers.now }
+pub(crate) fn has_unknown_coding(headers: &HeaderMap) -> bool
+    ensures { result ≡ has_unknown_coding headers.now }
 {
     for coding in headers.get_all("transfer-encoding") {
         if !is_chunked(coding.as_bytes()) {

@@ -4,7 +4,7 @@ ghost use Rattle.std.specs.Arc.{arc_value};
 ghost use Rattle.hyper_intake.specs.Asking.{IsResponseTo};
 ghost use Rattle.hyper_intake.specs.Services.{answered_of, latest_of, shared_of};
 
-use crate::asking::{BodyRead, Gathered, is_coded, read_body, reply_to};
+use crate::asking::{BodyRead, Gathered, has_unknown_coding, read_body, reply_to};
 use crate::responding::{not_implemented, response_of};
 use bytes::Bytes;
 use delivery::Shared;
@@ -32,22 +32,22 @@ use std::time::Clock;
 #[derive(Drop)]
 pub struct Intake<R, L: Ledger, I: LogId> {
     rt: R,
-    owners: Owners<L, I>,
+    owners: SharedParts<L, I>,
 }
 
 // What the threads of the intake share.
 #[derive(Drop)]
-struct Owners<L: Ledger, I: LogId> {
+struct SharedParts<L: Ledger, I: LogId> {
     shared: Arc<Shared<L, I>>,
     latest: Arc<Mutex<LatestAck<I>>>,
     answered: Arc<AtomicU64>,
 }
 
-impl<L: Ledger, I: LogId> Owners<L, I> {
-    fn again(&self) -> Option<Owners<L, I>>
+impl<L: Ledger, I: LogId> SharedParts<L, I> {
+    fn again(&self) -> Option<SharedParts<L, I>>
         ensures { IfSome result (λ again. arc_value again.shared ≡ arc_value self.now.shared) }
     {
-        Some(Owners {
+        Some(SharedParts {
             shared: Arc::try_clone(&self.shared).ok()?,
             latest: Arc::try_clone(&self.latest).ok()?,
             answered: Arc::try_clone(&self.answered).ok()?,
@@ -59,7 +59,7 @@ impl<L: Ledger, I: LogId> Owners<L, I> {
 #[derive(Drop)]
 pub struct Answering<R, L: Ledger, I: LogId, C> {
     rt: R,
-    owners: Option<Owners<L, I>>,
+    owners: Option<SharedParts<L, I>>,
     head: Option<request::Parts>,
     body: C,
 }
@@ -104,7 +104,7 @@ impl<R, L: Ledger, I: LogId> Intake<R, L, I> {
     {
         Intake {
             rt,
-            owners: Owners {
+            owners: SharedParts {
                 shared,
                 latest,
                 answered,
@@ -173,7 +173,7 @@ where
 // The response to a request whose body came to an end.
 fn response_to<R, L, I>(
     rt: &R,
-    owners: &Owners<L, I>,
+    owners: &SharedParts<L, I>,
     head: &request::Parts,
     gathered: Gathered,
 ) -> Result<Response<Full<Bytes>>, Unanswered>
@@ -183,7 +183,7 @@ where
     I: LogId,
     ensures { IfOk result (IsResponseTo head.now gathered) }
 {
-    if is_coded(&head.headers) {
+    if has_unknown_coding(&head.headers) {
         return Ok(not_implemented(rt.alloc()));
     }
     let (shared, latest) = (&*owners.shared, &*owners.latest);

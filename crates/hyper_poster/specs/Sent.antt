@@ -23,7 +23,7 @@ bytes_sent bytes = if length bytes == 0 then None else Some bytes
 
 -- What is handed to the connection is a POST, and says what the request of an attempt says: what it asks for, its
 -- headers, the event's bytes.
-pub record Says (request : relay.Request) (sent : Request (Full (List ℕ))) : Type 0 where
+pub record IsSentRequest (request : relay.Request) (sent : Request (Full (List ℕ))) : Type 0 where
   pub method : (head_of sent).method ≡ codes "POST"
   pub target : HasParts (head_of sent).uri None None request.target
   pub headers : (head_of sent).headers ≡ fields request.headers

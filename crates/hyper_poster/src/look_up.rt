@@ -20,20 +20,20 @@ const MOST_LOOK_UPS: usize = 32;
 /// Looks names up. One thread waits for them, and starts another for each.
 pub(crate) struct Resolver<R: Wait + Copy> {
     rt: R,
-    asked: Arc<Asked>,
+    queue: Arc<LookUpQueue>,
     under_way: Mutex<Vec<Arc<LookUp>>>,
 }
 
 // What the thread waits for. It changes only under the lock, so the thread misses no change.
 #[derive(Drop)]
-struct Asked {
-    line: Mutex<Line>,
+struct LookUpQueue {
+    state: Mutex<QueueState>,
     changed: Condvar,
 }
 
 // The look-ups that wait for a thread, and whether the resolver is gone.
 #[derive(Drop)]
-struct Line {
+struct QueueState {
     waiting: Vec<Arc<LookUp>>,
     is_over: bool,
 }
@@ -50,10 +50,10 @@ struct LookUp {
 // The thread that waits ends; no look-up is waited for.
 impl<R: Wait + Copy> Drop for Resolver<R> {
     fn drop(self) {
-        self.asked.end(&self.rt);
+        self.queue.end(&self.rt);
         let Resolver {
             rt: _,
-            asked: _,
+            queue: _,
             under_way: _,
         } = self;
     }
@@ -65,12 +65,12 @@ impl<R: Wait + Copy> Resolver<R> {
         R: Threads + Net<Listener = TcpListener, Stream = TcpStream> + AllocGlobal + Send + 'static,
     {
         let alloc = rt.alloc();
-        let asked = Arc::new(alloc, Asked::new(alloc)).map_err(AllocError::from)?;
-        let theirs = Arc::try_clone(&asked)?;
-        let _running = thread::spawn(&rt, move || begin_all(&rt, &theirs))?;
+        let queue = Arc::new(alloc, LookUpQueue::new(alloc)).map_err(AllocError::from)?;
+        let theirs = Arc::try_clone(&queue)?;
+        let _running = thread::spawn(&rt, move || serve_look_ups(&rt, &theirs))?;
         Ok(Resolver {
             rt,
-            asked,
+            queue,
             under_way: Mutex::new(Vec::new(alloc)),
         })
     }
@@ -107,15 +107,15 @@ impl<R: Wait + Copy> Resolver<R> {
         under_way
             .push(Arc::try_clone(&look_up)?)
             .map_err(AllocError::from)?;
-        self.asked.add(&self.rt, Arc::try_clone(&look_up)?)?;
+        self.queue.add(&self.rt, Arc::try_clone(&look_up)?)?;
         Ok(look_up)
     }
 }
 
-impl Asked {
-    fn new(alloc: Global) -> Asked {
-        Asked {
-            line: Mutex::new(Line {
+impl LookUpQueue {
+    fn new(alloc: Global) -> LookUpQueue {
+        LookUpQueue {
+            state: Mutex::new(QueueState {
                 waiting: Vec::new(alloc),
                 is_over: false,
             }),
@@ -124,7 +124,7 @@ impl Asked {
     }
 
     fn add<R: Wait>(&self, rt: &R, look_up: Arc<LookUp>) -> Result<(), AllocError> {
-        self.line
+        self.state
             .lock(rt)
             .waiting
             .push(look_up)
@@ -135,17 +135,17 @@ impl Asked {
 
     // The resolver is gone.
     fn end<R: Wait>(&self, rt: &R) {
-        self.line.lock(rt).is_over = true;
+        self.state.lock(rt).is_over = true;
         self.changed.notify_all();
     }
 
     // The next look-up, or none once the resolver is gone.
     fn next<R: Wait>(&self, rt: &R) -> Option<Arc<LookUp>> {
-        let line = self.line.lock(rt);
-        let mut line = self.changed.wait_while(rt, line, |line| {
-            line.waiting.is_empty() && !line.is_over
+        let state = self.state.lock(rt);
+        let mut state = self.changed.wait_while(rt, state, |state| {
+            state.waiting.is_empty() && !state.is_over
         });
-        line.waiting.pop()
+        state.waiting.pop()
     }
 }
 
@@ -179,12 +179,12 @@ impl LookUp {
 }
 
 // Begins all look-ups that are asked for.
-fn begin_all<R>(rt: &R, asked: &Asked)
+fn serve_look_ups<R>(rt: &R, queue: &LookUpQueue)
 where
     R: Wait + Threads + Net<Listener = TcpListener, Stream = TcpStream> + Copy + Send + 'static,
 {
     for _ in rt.forever() {
-        let Some(look_up) = asked.next(rt) else {
+        let Some(look_up) = queue.next(rt) else {
             return;
         };
         if begin(*rt, &look_up).is_err() {

@@ -4,7 +4,7 @@ ghost use Rattle.http_header.specs.FieldValue.{plain_value};
 ghost use Rattle.http_header.specs.HeaderMap.{append};
 ghost use Rattle.http_uri.specs.Uri.{HasParts};
 ghost use Rattle.webhook_request.specs.Requests.{name_text};
-ghost use Rattle.hyper_poster.specs.Sent.{Says, fields};
+ghost use Rattle.hyper_poster.specs.Sent.{IsSentRequest, fields};
 
 use crate::failure::Failure;
 use bytes::Bytes;
@@ -20,7 +20,7 @@ pub(crate) fn http_request(
     alloc: Global,
     outgoing: &Outgoing,
 ) -> Result<Request<Full<Bytes>>, Failure>
-    ensures { IfOk result (Says outgoing.now) }
+    ensures { IfOk result (IsSentRequest outgoing.now) }
 {
     let mut head = request::Parts::new(alloc);
     head.method = Method::POST;

@@ -2,7 +2,7 @@
 ghost use Rattle.std.specs.Prelude.{◌≡◌, ◌⊎◌, ◌↔◌, false, Some, IsTrue, IfOk, IfErr, Err};
 ghost use Rattle.spool.specs.Commits.{HandsBack, IsDoubt};
 ghost use Rattle.spool.specs.declared.faults.Unchanged.{Unchanged};
-ghost use Rattle.delivery.specs.Keepers.{Counts, Leaves};
+ghost use Rattle.delivery.specs.Keepers.{AdvancesNext, HistoryAfterCommit};
 ghost use Rattle.relay_host.specs.FileGuards.{keeper_of, place_of, refusal_at, sight_of};
 
 use crate::place::{FileCheck, Place};
@@ -76,10 +76,10 @@ impl<K: Keeper + Drop, P: Place + Drop> Keeper for FileGuard<K, P> {
             (K.closed (keeper_of self.old)) }
         ensures doubt { IsTrue (K.closed (keeper_of self.new)) ↔ (IsTrue (K.closed (keeper_of self.old))
             ⊎ IsDoubt result) }
-        ensures counts { Counts K.next (keeper_of self.old) (keeper_of self.new) batch result }
+        ensures counts { AdvancesNext K.next (keeper_of self.old) (keeper_of self.new) batch result }
         ensures clean { K.is_clean (keeper_of self.new) → K.is_clean (keeper_of self.old) }
         ensures history { K.is_clean (keeper_of self.new)
-            → Leaves K.holds K.in_doubt (keeper_of self.old) (keeper_of self.new) batch result }
+            → HistoryAfterCommit K.holds K.in_doubt (keeper_of self.old) (keeper_of self.new) batch result }
         ensures looked { K.closed (keeper_of self.old) ≡ false
             → P.finds (place_of self.old) (place_of self.new) (sight_of self.new) }
         ensures refused { K.closed (keeper_of self.old) ≡ false → (why : Unchanged)

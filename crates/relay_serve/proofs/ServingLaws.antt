@@ -13,7 +13,7 @@ use Rattle.spool.specs.Adopting.{IsOnlyRead}
 use Rattle.spool.specs.Commits.{HoldsOnDisk}
 use Rattle.spool.specs.Entering.{RestsInDoubt}
 use Rattle.spool.specs.Vaults.{VaultValue}
-use Rattle.delivery.specs.Keepers.{Adds, AppendsBatches, KeepsLog, Stands, records_in}
+use Rattle.delivery.specs.Keepers.{AddsRecords, AppendsBatches, KeepsLog, HoldsAtEnd, records_in}
 use Rattle.delivery.specs.declared.committer.CommitterEnd.{CommitterEnd}
 use Rattle.delivery.specs.declared.committer.CommitterEnd.TheVariants.{Finished, Halted}
 use Rattle.delivery.specs.declared.committer.HaltCause.TheVariants as cause
@@ -25,8 +25,8 @@ module _ {A B : Type 0} (holds : A → List Record → Type 0) (in_doubt : A →
     (holds' : B → List Record → Type 0) (in_doubt' : B → List Record → List Record → Type 0) (a : A) (b : B)
     (held : (records : List Record) → holds a records → holds' b records)
     (doubted : (records more : List Record) → in_doubt a records more → in_doubt' b records more) where
-  stands_so : (records : List Record) (end : CommitterEnd) → Stands holds in_doubt a records end
-      → Stands holds' in_doubt' b records end
+  stands_so : (records : List Record) (end : CommitterEnd) → HoldsAtEnd holds in_doubt a records end
+      → HoldsAtEnd holds' in_doubt' b records end
   stands_so records Finished stands = held records stands
   stands_so records (Halted (cause.Store error)) (last, doubt) = (last, doubted records _ doubt)
   stands_so records (Halted cause.Closed) stands = held records stands
@@ -70,7 +70,7 @@ module _ {S : Type 0} (g : Ghosts S) where
     in_doubt k records more = RestsInDoubt (state g (vault_of k).conn) records more
 
     -- what a run of commits adds to the vault that a keeper has
-    pub added : (old new : K) (end : CommitterEnd) → Adds holds in_doubt old new end
+    pub added : (old new : K) (end : CommitterEnd) → AddsRecords holds in_doubt old new end
         → AddsBatches g (vault_of old) (vault_of new) end
     added old new end adds records held =
         let more = adds records held in (
@@ -90,7 +90,7 @@ module _ {S : Type 0} (g : Ghosts S) where
         let left = stands_so holds in_doubt (HasRows g) (LeavesDoubt g) new (vault_of new)
         (λ _ held. (λ _. held.0.stands, held.1))
         (λ _ _ doubt. doubt) (records ++ log) end held_all in
-        let Has = λ (more : List Record). Stands (HasRows g) (LeavesDoubt g) (vault_of new) (records ++ more) end
+        let Has = λ (more : List Record). HoldsAtEnd (HasRows g) (LeavesDoubt g) (vault_of new) (records ++ more) end
         × IfSome acknowledged (λ event. HasEvent (records ++ more) event.seq event.name event.id event.body) in
         let both = subst Has are (left, has) in (batches, both.0, both.1)
 

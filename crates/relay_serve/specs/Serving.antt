@@ -12,7 +12,7 @@ use Rattle.spool.specs.Entering.{RestsInDoubt}
 use Rattle.spool.specs.Vaults.{VaultValue}
 use Rattle.desk.specs.Desks.{DeskValue, StandsFor}
 use Rattle.desk.specs.World.{World, settled_records}
-use Rattle.delivery.specs.Keepers.{Stands, records_in}
+use Rattle.delivery.specs.Keepers.{HoldsAtEnd, records_in}
 use Rattle.delivery.specs.declared.committer.CommitterEnd.{CommitterEnd}
 use Rattle.delivery.specs.declared.committer.CommitterEnd.TheVariants as committer
 use Rattle.intake_shed.specs.Acks.{EventValue, HasEvent}
@@ -40,7 +40,7 @@ module _ {S : Type 0} (g : Ghosts S) where
   -- leaves these. If the store was at fault, a crash leaves these, or these and other records after them.
   abbrev pub AddsBatches : (old new : VaultValue S) → CommitterEnd → Type 0
   AddsBatches old new end = (records : List Record) → HoldsOnDisk g old records
-      → (batches : List History) × Stands HasRows LeavesDoubt new (records ++ records_in batches) end
+      → (batches : List History) × HoldsAtEnd HasRows LeavesDoubt new (records ++ records_in batches) end
 
   -- so it is at this end, if the disk has returned what was written
   abbrev pub KeepsHistory : (old new : VaultValue S) → Result Served ServeFault → Type 0
@@ -51,7 +51,7 @@ module _ {S : Type 0} (g : Ghosts S) where
   -- body. If the store was at fault, a crash leaves these, or these and other records after them.
   abbrev pub AddsEvent : (old new : VaultValue S) → CommitterEnd → Option EventValue → List Record → Type 0
   AddsEvent old new end acknowledged records = HoldsOnDisk g old records → (batches : List History)
-      × Stands HasRows LeavesDoubt new (records ++ records_in batches) end
+      × HoldsAtEnd HasRows LeavesDoubt new (records ++ records_in batches) end
       × IfSome acknowledged (λ event. HasEvent (records ++ records_in batches) event.seq event.name event.id event.body)
 
   -- It is so of the settled records of each state that the desk represented, if the disk has returned what was written.

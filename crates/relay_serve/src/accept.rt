@@ -38,7 +38,7 @@ where
     I: LogId,
 {
     let mut runtime = LocalRuntime::new(rt)?;
-    let http = settings(rt, &runtime)?;
+    let http = http_builder(rt, &runtime)?;
     for _ in rt.forever() {
         if relay.is_closing(rt) {
             return Ok(());
@@ -57,7 +57,7 @@ where
     unreachable!()
 }
 
-fn settings<R>(rt: &R, runtime: &LocalRuntime) -> io::Result<http1::Builder<TokioTimer<R>>>
+fn http_builder<R>(rt: &R, runtime: &LocalRuntime) -> io::Result<http1::Builder<TokioTimer<R>>>
 where
     R: Clock + RandomSource + AllocGlobal + Copy,
 {

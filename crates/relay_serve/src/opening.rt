@@ -2,7 +2,7 @@
 ghost use Rattle.std.specs.Prelude.{◌≡◌};
 ghost use Rattle.permits.specs.declared.pool.TheConstants.{PARTS};
 
-use crate::operator_log::{LogLine, tell};
+use crate::operator_log::{LogLine, print_log_line};
 use desk::Desk;
 use permits::PARTS;
 use recovery::open_path;
@@ -30,7 +30,7 @@ struct Progress {
 
 /// Opens the file, as `open_path` does. Until it is open a thread tells the operator for how long
 /// it has lasted. Without memory for the thread it is opened all the same.
-pub(crate) fn open_told<L, R>(
+pub(crate) fn open_with_progress<L, R>(
     host: &HostRuntime,
     rt: &R,
     blank: Blank,
@@ -53,7 +53,7 @@ where
             requires parts { blank.parts ≡ L.parts }
             requires enough { blank.parts ≡ PARTS }
         {
-            let _told = scope.spawn(move || shared.tell_until_over(rt));
+            let _told = scope.spawn(move || shared.log_until_open(rt));
             let opened = open_path::<L, Unknown>(host, blank, file, Unknown, MARK);
             shared.end(rt);
             opened
@@ -83,13 +83,13 @@ impl Progress {
         *is_over
     }
 
-    fn tell_until_over<R: Wait + Clock + AllocGlobal + Eprint>(&self, rt: &R) {
+    fn log_until_open<R: Wait + Clock + AllocGlobal + Eprint>(&self, rt: &R) {
         let mut seconds = PROGRESS_SECONDS;
         for _ in rt.forever() {
             if self.is_over_within(rt, Duration::from_secs(PROGRESS_SECONDS)) {
                 return;
             }
-            tell(rt, rt.alloc(), &LogLine::Opening { seconds });
+            print_log_line(rt, rt.alloc(), &LogLine::Opening { seconds });
             seconds = seconds.saturating_add(PROGRESS_SECONDS);
         }
     }

@@ -118,7 +118,7 @@ pub fn halt_text(cause: HaltCause, sight: FileCheck) -> &'static str {
 }
 
 /// Tells the operator. Where there is no memory for the line, or standard error takes nothing, it isn't told.
-pub(crate) fn tell<R: Clock + Eprint>(rt: &R, alloc: Global, log_line: &LogLine<'_>) {
+pub(crate) fn print_log_line<R: Clock + Eprint>(rt: &R, alloc: Global, log_line: &LogLine<'_>) {
     let now = delivery::Clock::now(&HostClock::new(rt)).seconds();
     if let Ok(line) = format!(in alloc; "{now} {log_line}\n") {
         let _ = rt.eprint(line);

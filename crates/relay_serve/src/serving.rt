@@ -13,8 +13,8 @@ ghost use Rattle.intake_shed.specs.Acks.{HasEvent};
 ghost use Rattle.relay_serve.specs.Serving.{AddsEvent, KeepsAcknowledged, KeepsHistory, committer_end};
 
 use crate::fault::ServeFault;
-use crate::opening::open_told;
-use crate::operator_log::{LogLine, tell};
+use crate::opening::open_with_progress;
+use crate::operator_log::{LogLine, print_log_line};
 use crate::relay::Relay;
 use crate::served::Served;
 use crate::threads::run_threads;
@@ -95,13 +95,13 @@ where
     requires enough { blank.parts ≡ PARTS }
 {
     let mut place = FilePlace::new(host, rt.alloc(), asked.file)?;
-    let (desk, vault) = open_told::<L, R>(host, rt, blank, asked.file)?;
+    let (desk, vault) = open_with_progress::<L, R>(host, rt, blank, asked.file)?;
     place.remember();
     let totals = desk.totals();
     if println!(rt; "listening on {bound}").is_err() {
         return Err(ServeFault::Write);
     }
-    tell(
+    print_log_line(
         rt,
         rt.alloc(),
         &LogLine::Started {
@@ -120,7 +120,7 @@ where
         asked.settings,
     );
     if let Some(event) = acknowledged {
-        tell(rt, rt.alloc(), &LogLine::Acknowledged(event.seq()));
+        print_log_line(rt, rt.alloc(), &LogLine::Acknowledged(event.seq()));
     }
     ended
 }
@@ -277,7 +277,7 @@ where
 {
     match end.how() {
         CommitterEnd::Halted(cause) => {
-            tell(rt, rt.alloc(), &LogLine::Halted { cause, sight });
+            print_log_line(rt, rt.alloc(), &LogLine::Halted { cause, sight });
             Err(ServeFault::Halted(cause))
         }
         CommitterEnd::Finished if relay.lacks_thread() => Err(ServeFault::NoThread),

@@ -1,6 +1,6 @@
 //! The threads of a relay.
 ghost use Rattle.std.specs.Prelude.{IsTrue};
-ghost use Rattle.delivery.specs.Keepers.{Adds, AppendsBatches, IsOfKeeper, KeepsLog};
+ghost use Rattle.delivery.specs.Keepers.{AddsRecords, AppendsBatches, IsOfKeeper, KeepsLog};
 
 use crate::accept::{take_requests, wake};
 use crate::relay::Relay;
@@ -46,7 +46,7 @@ where
         + Send
         + Sync
         + 'static,
-    ensures rows { K.is_clean result.0.keeper → Adds K.holds K.in_doubt logged.keeper result.0.keeper result.1 }
+    ensures rows { K.is_clean result.0.keeper → AddsRecords K.holds K.in_doubt logged.keeper result.0.keeper result.1 }
     ensures logged { K.is_clean result.0.keeper
         → KeepsLog K.holds K.in_doubt logged.keeper logged.writer result.0.keeper result.0.writer result.1 }
     ensures appended { AppendsBatches logged.writer result.0.writer }
@@ -84,7 +84,7 @@ where
         + Send
         + Sync
         + 'static,
-    ensures rows { K.is_clean result.0.keeper → Adds K.holds K.in_doubt logged.keeper result.0.keeper result.1 }
+    ensures rows { K.is_clean result.0.keeper → AddsRecords K.holds K.in_doubt logged.keeper result.0.keeper result.1 }
     ensures logged { K.is_clean result.0.keeper
         → KeepsLog K.holds K.in_doubt logged.keeper logged.writer result.0.keeper result.0.writer result.1 }
     ensures appended { AppendsBatches logged.writer result.0.writer }
@@ -95,7 +95,8 @@ where
         thread::scope_env(),
         rt,
         move |scope|
-            ensures rows { K.is_clean result.0.keeper → Adds K.holds K.in_doubt logged.keeper result.0.keeper result.1 }
+            ensures rows { K.is_clean result.0.keeper
+                → AddsRecords K.holds K.in_doubt logged.keeper result.0.keeper result.1 }
             ensures logged { K.is_clean result.0.keeper
                 → KeepsLog K.holds K.in_doubt logged.keeper logged.writer result.0.keeper result.0.writer result.1 }
             ensures appended { AppendsBatches logged.writer result.0.writer }

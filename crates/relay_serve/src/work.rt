@@ -1,5 +1,5 @@
 //! The loop of a worker.
-use crate::operator_log::{LogLine, tell};
+use crate::operator_log::{LogLine, print_log_line};
 use crate::relay::Relay;
 use delivery::{Pass, Round, worker_round};
 use hyper_poster::HyperPoster;
@@ -48,7 +48,7 @@ where
             | Round::Idle
             | Round::NoMemory
             | Round::WentBack(_) => relay.shared.rest(rt, &pass),
-            Round::Posted { .. } => tell_of(rt, &round),
+            Round::Posted { .. } => log_post(rt, &round),
             Round::Halted | Round::Closing => return,
         }
     }
@@ -56,7 +56,7 @@ where
 }
 
 // Tells of a post that disabled its endpoint, and of one after which its event is given up.
-fn tell_of<R: Clock + AllocGlobal + Eprint>(rt: &R, round: &Round) {
+fn log_post<R: Clock + AllocGlobal + Eprint>(rt: &R, round: &Round) {
     let Round::Posted {
         post,
         request,
@@ -68,9 +68,9 @@ fn tell_of<R: Clock + AllocGlobal + Eprint>(rt: &R, round: &Round) {
     };
     let endpoint = post.endpoint();
     if matches!(judge(answer), (_, Some(status)) if is_gone(status)) {
-        tell(rt, rt.alloc(), &LogLine::Disabled { endpoint, request });
+        print_log_line(rt, rt.alloc(), &LogLine::Disabled { endpoint, request });
     }
     if spent.is_exhausted() {
-        tell(rt, rt.alloc(), &LogLine::Exhausted { endpoint, request });
+        print_log_line(rt, rt.alloc(), &LogLine::Exhausted { endpoint, request });
     }
 }

@@ -2,7 +2,7 @@ use Rattle.std.specs.Prelude.{Option}
 use Rattle.std.proofs.Common.{◌++◌, subst}
 use Rattle.delivery.specs.declared.committer.CommitterEnd.{CommitterEnd}
 use Rattle.delivery.specs.Logs.{receipt_of}
-use Rattle.delivery.specs.Keepers.{EndsBy, records_in}
+use Rattle.delivery.specs.Keepers.{EndsAfterCommit, records_in}
 use Rattle.delivery.proofs.KeeperLaws.{appends_on, ends_so, goes_on, keeps_log}
 use Rattle.delivery.proofs.committer.committer_run.Goals as goal
 
@@ -14,7 +14,8 @@ loop-preserved-in_default g c =
     let commit = c.commit-ended in
     let new = commit.new.self in
     let batch = c.in-Commit.batch in
-    let goes_on_by = subst (λ (end : Option CommitterEnd). EndsBy (receipt_of commit.result) end) c.in_default.is
+    let goes_on_by =
+    subst (λ (end : Option CommitterEnd). EndsAfterCommit (receipt_of commit.result) end) c.in_default.is
     c.hand_in.ensures in
     record {
       next = tt;
@@ -35,7 +36,8 @@ loop-preserved-in_default g c =
 pub returns-in-Some-hand_in-clause-rows : goal.returns-in-Some-hand_in-clause-rows
 returns-in-Some-hand_in-clause-rows g c clean records held =
     let commit = c.commit-ended in
-    let ended = subst (λ (end : Option CommitterEnd). EndsBy (receipt_of commit.result) end) c.in-Some-hand_in.is
+    let ended =
+    subst (λ (end : Option CommitterEnd). EndsAfterCommit (receipt_of commit.result) end) c.in-Some-hand_in.is
     c.hand_in.ensures in
     let before = c.loop.invariant.adds (commit.ensures.clean clean) records held in (
       before.0,

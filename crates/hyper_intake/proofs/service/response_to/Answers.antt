@@ -57,7 +57,7 @@ returns g c =
     let read = c.read_body.ensures in
     let whole = whole_came c.args.gathered c.read_body.result read.whole read.long read.cut in
     inr (
-      sym c.is_coded.ensures ∙ c.if-is_coded.false,
+      sym c.has_unknown_coding.ensures ∙ c.if-has_unknown_coding.false,
       c.match-read_body.reply,
       c.in_ok-response_of.ensures,
       elim c.match-read_body.branch [

@@ -1,6 +1,6 @@
 use Rattle.std.proofs.Common.{sym, ◌∙◌, subst}
 use Rattle.delivery.specs.declared.committer.CommitterEnd.{CommitterEnd}
-use Rattle.delivery.specs.Keepers.{Adds, KeepsLog}
+use Rattle.delivery.specs.Keepers.{AddsRecords, KeepsLog}
 use Rattle.relay_serve.proofs.RunLaws.{adds_on, appends_both, logs_on}
 use Rattle.relay_serve.proofs.threads.run_threads.Goals as goal
 
@@ -10,7 +10,8 @@ returns-in-Finished-clause-rows g c clean =
     let in_doubt = g.K.Keeper.in_doubt in
     let first = c.run_together-logged in
     let second = c.committer_run in
-    let finished = subst (λ (end : CommitterEnd). Adds holds in_doubt c.args.logged.keeper first.result.0.keeper end)
+    let finished = subst
+    (λ (end : CommitterEnd). AddsRecords holds in_doubt c.args.logged.keeper first.result.0.keeper end)
     (sym c.how.ensures ∙ c.in-Finished.is) (first.ensures.rows (second.ensures.clean clean)) in
     adds_on holds in_doubt c.args.logged.keeper first.result.0.keeper second.result.0.keeper second.result.1
     finished (second.ensures.rows clean)

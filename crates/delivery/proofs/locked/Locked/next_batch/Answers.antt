@@ -2,7 +2,7 @@ use Rattle.delivery.proofs.SettledLaws.{sealed}
 use Rattle.delivery.proofs.locked.Locked.next_batch.Goals as goal
 
 pub returns-clause-moves : goal.returns-clause-moves
-returns-clause-moves g c = rw (← c.self.view_is) (c.seal.result, c.next_by.ensures.value, c.seal.ensures.moves)
+returns-clause-moves g c = rw (← c.self.view_is) (c.seal.result, c.next_after_seal.ensures.value, c.seal.ensures.moves)
 
 pub invariant_of-self : goal.invariant_of-self
 invariant_of-self g c =

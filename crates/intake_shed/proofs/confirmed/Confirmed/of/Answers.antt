@@ -2,7 +2,7 @@ use Rattle.std.proofs.Common.{◌<◌, ◌∙◌, ℕ, List, ap, refl, subst, sy
 use Rattle.relay_types.specs.declared.record.Record.{Record}
 use Rattle.desk.specs.Desks.{DeskValue}
 use Rattle.delivery.specs.Logs.{ChangeValue, HasChange}
-use Rattle.delivery.specs.Shares.{LockedValue}
+use Rattle.delivery.specs.LockedState.{LockedValue}
 use Rattle.intake_shed.proofs.confirmed.Confirmed.of.Goals as goal
 
 pub invariant_of-result : goal.invariant_of-result

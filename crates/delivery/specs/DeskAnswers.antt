@@ -16,8 +16,8 @@ use Rattle.delivery.specs.declared.worker.Round.{Round}
 use Rattle.delivery.specs.declared.worker.Round.TheVariants as round
 
 -- what a submission and a command are refused with once the end was asked for
-abbrev pub halted : Refusal
-halted = refusal 1 fault.Halted
+abbrev pub closing_refusal : Refusal
+closing_refusal = refusal 1 fault.Halted
 
 -- how a round ends whose claim is refused: of numbers that are all given out nothing more is posted
 abbrev pub round_of : Fault → Round
@@ -30,20 +30,20 @@ abbrev pub went_back : (seen found : ℕ) → Round
 went_back seen found = round.WentBack (record { seen = seen; found = found })
 
 -- a job, or the end of the round
-abbrev pub claimed_by : {g : _} → Result (Option JobValue) Refusal → Claimed g
-claimed_by (Ok (Some job)) = claimed.Job job
-claimed_by (Ok None) = claimed.RoundOver round.Idle
-claimed_by (Err why) = claimed.RoundOver (round_of why.fault)
+abbrev pub claimed_of : {g : _} → Result (Option JobValue) Refusal → Claimed g
+claimed_of (Ok (Some job)) = claimed.Job job
+claimed_of (Ok None) = claimed.RoundOver round.Idle
+claimed_of (Err why) = claimed.RoundOver (round_of why.fault)
 
 -- what a committer does whose seal is refused: nothing yet, while another one has a batch
-abbrev pub refused : Fault → Option Next
-refused fault.Halted = Some (next.End (end.Halted cause.Halted))
-refused fault.OutOfMemory = Some next.Refused
-refused fault = None
+abbrev pub next_after_refusal : Fault → Option Next
+next_after_refusal fault.Halted = Some (next.End (end.Halted cause.Halted))
+next_after_refusal fault.OutOfMemory = Some next.Refused
+next_after_refusal fault = None
 
 -- It commits a batch. If nothing waits it does nothing yet, or is finished once the end was asked for.
-abbrev pub next_by : (closing : Bool) → Result (Option BatchValue) Refusal → Option Next
-next_by closing (Ok (Some batch)) = Some (next.Commit batch)
-next_by true (Ok None) = Some (next.End end.Finished)
-next_by false (Ok None) = None
-next_by closing (Err why) = refused why.fault
+abbrev pub next_after_seal : (closing : Bool) → Result (Option BatchValue) Refusal → Option Next
+next_after_seal closing (Ok (Some batch)) = Some (next.Commit batch)
+next_after_seal true (Ok None) = Some (next.End end.Finished)
+next_after_seal false (Ok None) = None
+next_after_seal closing (Err why) = next_after_refusal why.fault

@@ -1,6 +1,6 @@
 //! What waits goes into the store, in one commit.
 use crate::failed::Failed;
-use crate::times::{Turns, add, since};
+use crate::times::{BatchTimes, add, since};
 use desk::Desk;
 use spool::{Batch, CommitEnd, Receipt, Vault};
 use sqlite::{Alter, Connection};
@@ -40,12 +40,12 @@ fn written<S: Alter>(vault: &mut Vault<S>, batch: Batch) -> Option<Receipt> {
 }
 
 /// Seals what waits, commits it and settles it.
-pub(crate) fn turn<L: Ledger, S: Alter>(
+pub(crate) fn commit_waiting<L: Ledger, S: Alter>(
     rt: &HostRuntime,
     began: Instant,
     desk: &mut Desk<L>,
     vault: &mut Vault<S>,
-    turns: &mut Turns,
+    times: &mut BatchTimes,
 ) -> Result<(), Failed> {
     let from = since(rt, began);
     let Some(batch) = desk.seal()? else {
@@ -57,9 +57,9 @@ pub(crate) fn turn<L: Ledger, S: Alter>(
     };
     let committed = since(rt, began);
     settled(desk, receipt)?;
-    add(&mut turns.sealing, from, sealed);
-    add(&mut turns.committing, sealed, committed);
-    add(&mut turns.sealing, committed, since(rt, began));
+    add(&mut times.sealing, from, sealed);
+    add(&mut times.committing, sealed, committed);
+    add(&mut times.sealing, committed, since(rt, began));
     Ok(())
 }
 

@@ -1,4 +1,4 @@
-use Rattle.driver.proofs.growing_makes.MakesAttempt.attempt.Given as goal
+use Rattle.driver.proofs.growing_makes.MakesRepeatableCall.attempt.Given as goal
 
 abbrev pub ghosts-new_desk : goal.ghosts-new_desk
 ghosts-new_desk a = record { name = a.blank.name; parts = a.blank.parts }
