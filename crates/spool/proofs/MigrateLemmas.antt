@@ -26,7 +26,7 @@ use Rattle.sound_tables.specs.Checks as tables
 use Rattle.sound_tables.specs.declared.fault.TableFault.{TableFault}
 use Rattle.sound_tables.specs.declared.fault.TableFault.TheVariants as table
 use Rattle.sound_tables.proofs.BothRefused.{refusal_since}
-use Rattle.sound_tables.specs.Keys.{has_tables}
+use Rattle.sound_tables.specs.Keys.{has_first_tables, has_tables}
 use Rattle.sound_tables.proofs.KeyedLemmas.{never_nameless}
 use Rattle.sound_tables.proofs.RefusedLemmas.{meta_tells, one_told}
 use Rattle.spool.specs.Adopting.{AreAdopted, IsOfStore, IsOldOrOfStore, IsOnlyRead, IsReadOpen, IsUnadopted}
@@ -117,13 +117,14 @@ may_stay a = record { stays = λ is_open. (is_open, λ rows stands. stands); lea
 
 -- what it leaves of tables that the check took
 pub may_migrate : (a b : State) (records : ℕ)
+    → IsTrue (has_first_tables a.now.schema)
     → (a.now.schema ≡ first_schema → tables.HasSound tables.AreSoundFirstTables a.now records) → MayCommit a b
     → MayMigrate a b
-may_migrate a b records found may = record {
+may_migrate a b records whole found may = record {
   stays = may.stays;
   leaves = λ db left. elim (may.leaves db left) [
     | inl was ↦ inl was
-    | inr (free, made) ↦ inr (record { free = free; kept = made; sound = sound_rows db made })
+    | inr (free, made) ↦ inr (record { whole = whole; free = free; kept = made; sound = sound_rows db made })
   ];
 }
   where
@@ -186,6 +187,7 @@ module _ (a m b : State) (same : IsUnchanged a m) (early : Survives a m (λ _. �
 
   kept_since : (db : Trees) → KeepsRows m db → KeepsRows a db
   kept_since db it = record {
+    whole = subst (λ (d : Database). IsTrue (has_first_tables d.schema)) same.0.now_is it.whole;
     free = free_since it.free;
     kept = λ rows first. it.kept rows (first_then rows first);
     sound = λ is.

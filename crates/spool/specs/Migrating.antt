@@ -15,6 +15,7 @@ use Rattle.spool_sql.specs.Steps.{MayLeave}
 use Rattle.spool_sql.specs.Stored.{AreTablesOf, IsFirstTables, IsTables}
 use Rattle.spool_sql.specs.Tables.{first_schema}
 use Rattle.sound_tables.specs.Checks as tables
+use Rattle.sound_tables.specs.Keys.{has_first_tables}
 use Rattle.sound_tables.specs.declared.fault.TableFault.TheVariants as table
 use Rattle.spool.specs.Adopting.{LeavesRead}
 use Rattle.spool.specs.Books.{KeepsOpen}
@@ -60,9 +61,10 @@ abbrev pub AreSoundIfFirst : State → Trees → Type 0
 AreSoundIfFirst old db =
     old.now.schema ≡ first_schema → (rows : Rows) × tables.AreSoundFirstTables old.now rows × AreTablesOf db rows
 
--- The tables of version 2 on the disk have all rows that tables of version 1 had, and these were sound. No table of
--- topics was there.
+-- The tables of version 2 on the disk have all rows that tables of version 1 had, and these were sound. The five tables
+-- of version 1 were there, and none of topics. So a database without these is never changed.
 pub record KeepsRows (old : State) (db : Trees) : Type 0 where
+  pub whole : IsTrue (has_first_tables old.now.schema)
   pub free : has_topics old.now.schema ≡ false
   pub kept : Migrated old db
   pub sound : AreSoundIfFirst old db

@@ -72,8 +72,9 @@ returns-in_err-add_topics-clause-left g c =
     let p = err_from_is_err_and c.from_residual-in_err-add_topics.result c.from_residual-in_err-add_topics.ensures.1 in
     rw (p.1, p.2) (λ clean.
     let same = checked.same (early clean) in
+    let records = c.in_ok-records.records in
     left_unmade a m b c.in_err-add_topics.field-0.0 (later.cause clean)
-    (may_migrate a b c.in_ok-records.records (checked.found (early clean))
+    (may_migrate a b records (first_whole a.now.schema (Ok records) checked.whole) (checked.found (early clean))
     (commit_since a m b same checked.survives (early clean) (later.left clean)))
     (λ is. subst (λ h. IsReadOpen a (state g.S.Store h)) (sym (later.untouched (ap Err is)))
     (checked.read (early clean), same.0.is_open)))
@@ -126,9 +127,10 @@ returns-clause-left g c clean =
     let m = state g.S.Store c.adopt_first_tables.new.conn in
     let b = state g.S.Store c.add_topics.new.conn in
     let early : HasCleanDisk m = omega (arith, clean, c.add_topics.ensures.survives.clean) in
-    may_migrate a b c.in_ok-records.records (c.in_ok-records.ensures.found early)
-    (commit_since a m b (c.in_ok-records.ensures.same early) c.in_ok-records.ensures.survives early
-    (c.in_ok-add_topics.ensures.left clean))
+    let records = c.in_ok-records.records in
+    let checked = c.in_ok-records.ensures in
+    may_migrate a b records (first_whole a.now.schema (Ok records) checked.whole) (checked.found early)
+    (commit_since a m b (checked.same early) checked.survives early (c.in_ok-add_topics.ensures.left clean))
 
 pub returns-clause-survives : goal.returns-clause-survives
 returns-clause-survives g c =
