@@ -5,7 +5,7 @@ use Rattle.text_lines.specs.declared.fault.StreamFault.{StreamFault}
 use Rattle.text_lines.specs.declared.fault.StreamFault.TheVariants.{TooLong, Read, Write, OutOfMemory}
 use Rattle.relay_commands.specs.declared.sign_command.SignWords.{SignWords}
 use Rattle.command_interface.specs.declared.exit_status.CommandFault.TheVariants.{Ended}
-use Rattle.relay_commands.specs.Signs.{AreAsked, SignsFront, IsNoBody, SignsSo}
+use Rattle.relay_commands.specs.Signs.{AreAsked, SignsFront, IsNoBody, WritesSignature}
 
 -- a fault after the arguments were read
 pub failed : (id at : List ℕ) (texts : List (List ℕ)) (asked : SignWords) (input old new : Option (List ℕ))
@@ -13,18 +13,18 @@ pub failed : (id at : List ℕ) (texts : List (List ℕ)) (asked : SignWords) (i
     → (fault ≡ TooLong → IsNoBody input) → (fault ≡ Write → SignsFront input old new asked) → (fault ≡ Write)
     ⊎ Keeps old new
     → (fault ≡ TooLong) ⊎ ((fault ≡ Read) ⊎ ((fault ≡ Write) ⊎ (fault ≡ OutOfMemory)))
-    → SignsSo id at texts input old new (Err (Ended fault))
+    → WritesSignature id at texts input old new (Err (Ended fault))
 failed id at texts asked input old new fault h long cut unwritten why = by why
   where
-    at_fault : (named : StreamFault) → fault ≡ named → SignsSo id at texts input old new (Err (Ended named))
-        → SignsSo id at texts input old new (Err (Ended fault))
-    at_fault named e = subst (λ f. SignsSo id at texts input old new (Err (Ended f))) (sym e)
+    at_fault : (named : StreamFault) → fault ≡ named → WritesSignature id at texts input old new (Err (Ended named))
+        → WritesSignature id at texts input old new (Err (Ended fault))
+    at_fault named e = subst (λ f. WritesSignature id at texts input old new (Err (Ended f))) (sym e)
 
     kept : (named : StreamFault) → fault ≡ named → named ≢ Write → Keeps old new
     kept named e other = elim unwritten [ inl w ↦ absurd (other (sym e ∙ w)) | inr same ↦ same ]
 
     by : (fault ≡ TooLong) ⊎ ((fault ≡ Read) ⊎ ((fault ≡ Write) ⊎ (fault ≡ OutOfMemory)))
-        → SignsSo id at texts input old new (Err (Ended fault))
+        → WritesSignature id at texts input old new (Err (Ended fault))
     by (inl e) = at_fault TooLong e ((asked, h, long e), kept TooLong e (λ w. cc))
     by (inr (inl e)) = at_fault Read e (asked, h, kept Read e (λ w. cc))
     by (inr (inr (inl e))) = at_fault Write e (asked, h, cut e)

@@ -146,27 +146,27 @@ WritesFront t old new (Ended OutOfMemory) = Keeps old new
 WritesFront t old new fault = ⊥
 
 -- What is written at an end: the line of the totals, and nothing where the store wasn't opened.
-abbrev pub ChecksSo : Result Totals OpenFault → Option (List ℕ) → Option (List ℕ) → Result (Unit {0}) CommandFault
+abbrev pub WritesCounts : Result Totals OpenFault → Option (List ℕ) → Option (List ℕ) → Result (Unit {0}) CommandFault
     → Type 0
-ChecksSo (Ok t) old new (Ok done) = Appends old new (counts_line t)
-ChecksSo (Ok t) old new (Err fault) = WritesFront t old new fault
-ChecksSo (Err why) old new end = (end ≡ Err (open_fault why)) × Keeps old new
+WritesCounts (Ok t) old new (Ok done) = Appends old new (counts_line t)
+WritesCounts (Ok t) old new (Err fault) = WritesFront t old new fault
+WritesCounts (Err why) old new end = (end ≡ Err (open_fault why)) × Keeps old new
 
 -- The exit status and standard error tell of the same end, at which this was written of what was read.
 abbrev pub ReportsChecked : Result Totals OpenFault → Option (List ℕ) → Option (List ℕ) → Option (List ℕ)
     → Option (List ℕ) → ℕ → Type 0
-ReportsChecked counted old new untold told status = Reports (ChecksSo counted old new) untold told status
+ReportsChecked counted old new untold told status = Reports (WritesCounts counted old new) untold told status
 
 -- the same, of what was counted of the store of a connection, which may be new
-abbrev pub ChecksTo : {S : Type 0} → Ghosts S → (is_new : Bool) → (conn back : Held S) → Option (List ℕ)
+abbrev pub ReportsCheck : {S : Type 0} → Ghosts S → (is_new : Bool) → (conn back : Held S) → Option (List ℕ)
     → Option (List ℕ) → Option (List ℕ) → Option (List ℕ) → ℕ → Type 0
-ChecksTo g is_new conn back old new untold told status =
+ReportsCheck g is_new conn back old new untold told status =
     (counted : Result Totals OpenFault) × IsCountOf g is_new conn back counted
     × ReportsChecked counted old new untold told status
 
 -- the same, of what was counted of a file
-abbrev pub ChecksFileTo : {D : Type 0} {g : disk.Ghosts D} → Image → (opened : Option (Held (FileStore D g)))
+abbrev pub ReportsFileCheck : {D : Type 0} {g : disk.Ghosts D} → Image → (opened : Option (Held (FileStore D g)))
     → Option (List ℕ) → Option (List ℕ) → Option (List ℕ) → Option (List ℕ) → ℕ → Type 0
-ChecksFileTo image opened old new untold told status =
+ReportsFileCheck image opened old new untold told status =
     (counted : Result Totals OpenFault) × IsCountedIn image opened counted
     × ReportsChecked counted old new untold told status

@@ -57,17 +57,19 @@ abbrev pub IsNoBody : Option (List ℕ) → Type 0
 IsNoBody input = IfSome input (λ body. MAX_BODY_BYTES < length body)
 
 -- What is written at an end. Memory may be refused only once an id and a moment were read.
-abbrev pub SignsSo : List ℕ → List ℕ → List (List ℕ) → Option (List ℕ) → Option (List ℕ) → Option (List ℕ)
+abbrev pub WritesSignature : List ℕ → List ℕ → List (List ℕ) → Option (List ℕ) → Option (List ℕ) → Option (List ℕ)
     → Result (Unit {0}) CommandFault → Type 0
-SignsSo id at texts input old new (Ok done) = Asks id at texts (Signs input old new)
-SignsSo id at texts input old new (Err (Argument fault)) = Refuses id at texts fault × Keeps old new
-SignsSo id at texts input old new (Err (Ended TooLong)) = Asks id at texts (λ asked. IsNoBody input) × Keeps old new
-SignsSo id at texts input old new (Err (Ended Read)) = Asks id at texts (λ asked. Keeps old new)
-SignsSo id at texts input old new (Err (Ended Write)) = Asks id at texts (SignsFront input old new)
-SignsSo id at texts input old new (Err (Ended OutOfMemory)) = HasIdAndMoment id at × Keeps old new
-SignsSo id at texts input old new _ = ⊥
+WritesSignature id at texts input old new (Ok done) = Asks id at texts (Signs input old new)
+WritesSignature id at texts input old new (Err (Argument fault)) = Refuses id at texts fault × Keeps old new
+WritesSignature id at texts input old new (Err (Ended TooLong)) =
+    Asks id at texts (λ asked. IsNoBody input) × Keeps old new
+WritesSignature id at texts input old new (Err (Ended Read)) = Asks id at texts (λ asked. Keeps old new)
+WritesSignature id at texts input old new (Err (Ended Write)) = Asks id at texts (SignsFront input old new)
+WritesSignature id at texts input old new (Err (Ended OutOfMemory)) = HasIdAndMoment id at × Keeps old new
+WritesSignature id at texts input old new _ = ⊥
 
 -- So it is, and the exit status and standard error tell of the same end.
-abbrev pub SignsTo : List ℕ → List ℕ → List (List ℕ) → Option (List ℕ) → Option (List ℕ) → Option (List ℕ)
+abbrev pub ReportsSignature : List ℕ → List ℕ → List (List ℕ) → Option (List ℕ) → Option (List ℕ) → Option (List ℕ)
     → Option (List ℕ) → Option (List ℕ) → ℕ → Type 0
-SignsTo id at texts input old new untold told status = Reports (SignsSo id at texts input old new) untold told status
+ReportsSignature id at texts input old new untold told status =
+    Reports (WritesSignature id at texts input old new) untold told status

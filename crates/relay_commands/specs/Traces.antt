@@ -108,21 +108,21 @@ abbrev pub HasNoMaximum : List ℕ → Type 0
 HasNoMaximum word = (maximum : ℕ) → IsTrue (is_max_limit maximum) → word ≡ decimal maximum → ⊥
 
 -- What is written at an end. The word is an argument: where it is no maximum, it is refused and nothing is written.
-abbrev pub TracesSo : Bool → List ℕ → Option (List ℕ) → Option (List ℕ) → Option (List ℕ)
+abbrev pub WritesTrace : Bool → List ℕ → Option (List ℕ) → Option (List ℕ) → Option (List ℕ)
     → Result (Unit {0}) CommandFault → Type 0
-TracesSo explains word input old new (Ok done) = HasMaximum word
+WritesTrace explains word input old new (Ok done) = HasMaximum word
     (λ maximum. Traces explains maximum input old new (Ok done))
-TracesSo explains word input old new (Err (Argument fault)) = (fault ≡ BadMax) × HasNoMaximum word × Keeps old new
-TracesSo explains word input old new (Err (Ended fault)) = HasMaximum word
+WritesTrace explains word input old new (Err (Argument fault)) = (fault ≡ BadMax) × HasNoMaximum word × Keeps old new
+WritesTrace explains word input old new (Err (Ended fault)) = HasMaximum word
     (λ maximum. Traces explains maximum input old new (Err fault))
-TracesSo explains word input old new (Err (File fault)) = ⊥
-TracesSo explains word input old new (Err (Store fault)) = ⊥
+WritesTrace explains word input old new (Err (File fault)) = ⊥
+WritesTrace explains word input old new (Err (Store fault)) = ⊥
 
 -- So it is, and the exit status and standard error tell of the same end.
-abbrev pub TracesTo : Bool → List ℕ → Option (List ℕ) → Option (List ℕ) → Option (List ℕ)
+abbrev pub ReportsTrace : Bool → List ℕ → Option (List ℕ) → Option (List ℕ) → Option (List ℕ)
     → Option (List ℕ) → Option (List ℕ) → ℕ → Type 0
-TracesTo explains word input old new untold told status = Reports (TracesSo explains word input old new) untold told
-    status
+ReportsTrace explains word input old new untold told status =
+    Reports (WritesTrace explains word input old new) untold told status
 
 -- what is told of an estimator
 abbrev pub estimator_words : (explains : Bool) → EstimatorValue → List (List ℕ)

@@ -7,7 +7,7 @@ ghost use Rattle.spool_sql.specs.Steps.{IfClean};
 ghost use Rattle.spool.specs.Migrating.{MayMigrate};
 ghost use Rattle.recovery.specs.Left.{IsCleanAt};
 ghost use Rattle.recovery.specs.Openings.{IsNewStore};
-ghost use Rattle.relay_commands.specs.Checks.{IsCountOf, ChecksSo, ChecksTo, ChecksFileTo, counts_text};
+ghost use Rattle.relay_commands.specs.Checks.{IsCountOf, WritesCounts, ReportsCheck, ReportsFileCheck, counts_text};
 
 use command_interface::{CommandFault, end};
 use desk::Totals;
@@ -58,7 +58,7 @@ pub fn check_file<T: Start, O: Write, E: Write>(
     output: &mut O,
     errors: &mut E,
 ) -> (Option<Connection<FileStore<FileFrom<T>>>>, u8)
-    ensures checks { ChecksFileTo (image_at T.Start) result.0 (O.contents output.old) (O.contents output.new)
+    ensures checks { ReportsFileCheck (image_at T.Start) result.0 (O.contents output.old) (O.contents output.new)
         (E.contents errors.old) (E.contents errors.new) result.1 }
 {
     let is_new = match is_new_file(rt, path) {
@@ -84,7 +84,7 @@ pub fn check_store<S: Alter, O: Write, E: Write>(
     errors: &mut E,
 ) -> (Connection<S>, u8)
     requires mode { conn.in_transaction ≡ false }
-    ensures checks { ChecksTo S.Store is_new conn result.0 (O.contents output.old) (O.contents output.new)
+    ensures checks { ReportsCheck S.Store is_new conn result.0 (O.contents output.old) (O.contents output.new)
         (E.contents errors.old) (E.contents errors.new) result.1 }
     ensures left { ¬ IsNewStore is_new (state S.Store conn).now.schema
         → IfClean S.Store conn result.0 MayMigrate }
@@ -127,7 +127,7 @@ fn write_counts<O: Write>(
     counted: Result<Totals, OpenFault>,
     output: &mut O,
 ) -> Result<(), CommandFault>
-    ensures { ChecksSo counted (O.contents output.old) (O.contents output.new) result }
+    ensures { WritesCounts counted (O.contents output.old) (O.contents output.new) result }
 {
     let totals = counted?;
     Ok(write_line(alloc, output, &Checked { totals })?)

@@ -1,6 +1,6 @@
 //! `relayd replay`: the replies to a script over a store in memory.
 ghost use Rattle.std.specs.Prelude.{◌≤◌};
-ghost use Rattle.relay_commands.specs.Replays.{ReplaysSo, ReplaysTo};
+ghost use Rattle.relay_commands.specs.Replays.{WritesReplies, ReportsReplay};
 
 use command_interface::{CommandFault, end};
 use sqlite::Connection;
@@ -15,7 +15,7 @@ pub fn replay<R: Read, O: Write, E: Write>(
     output: &mut O,
     errors: &mut E,
 ) -> u8
-    ensures replays { ReplaysTo (R.remaining input.old) (O.contents output.old) (O.contents output.new)
+    ensures replays { ReportsReplay (R.remaining input.old) (O.contents output.old) (O.contents output.new)
         (E.contents errors.old) (E.contents errors.new) result }
     ensures status { result ≤ 3 }
 {
@@ -27,7 +27,7 @@ fn run_script<R: Read, O: Write>(
     input: &mut R,
     output: &mut O,
 ) -> Result<(), CommandFault>
-    ensures { ReplaysSo (R.remaining input.old) (O.contents output.old) (O.contents output.new) result }
+    ensures { WritesReplies (R.remaining input.old) (O.contents output.old) (O.contents output.new) result }
 {
     let conn = Connection::open_in_memory(alloc)?;
     let (_, end) = drill::replay(alloc, input, output, conn, 0);

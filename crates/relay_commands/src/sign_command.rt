@@ -6,7 +6,7 @@ ghost use Rattle.relay_types.specs.Values.{is_msg_id};
 ghost use Rattle.text_lines.specs.Parts.{texts};
 ghost use Rattle.text_lines.specs.Words.{AreSecretTexts};
 ghost use Rattle.relay_commands.specs.Signs.{AreAsked, IsMomentText, HasIdAndMoment, signed_line, Signs, SignsFront};
-ghost use Rattle.relay_commands.specs.Signs.{IsNoBody, SignsSo, SignsTo};
+ghost use Rattle.relay_commands.specs.Signs.{IsNoBody, WritesSignature, ReportsSignature};
 ghost use Rattle.text_lines.specs.Streams.{AppendsFront};
 
 use command_interface::{CommandFault, end};
@@ -41,7 +41,7 @@ pub fn sign<R: Read, O: Write, E: Write>(
     output: &mut O,
     errors: &mut E,
 ) -> u8
-    ensures signs { SignsTo id.now at.now (texts secrets.now) (R.remaining input.old)
+    ensures signs { ReportsSignature id.now at.now (texts secrets.now) (R.remaining input.old)
         (O.contents output.old) (O.contents output.new) (E.contents errors.old) (E.contents errors.new) result }
     ensures status { result ≤ 3 }
 {
@@ -56,7 +56,7 @@ fn sign_body<R: Read, O: Write>(
     input: &mut R,
     output: &mut O,
 ) -> Result<(), CommandFault>
-    ensures { SignsSo id.now at.now (texts secrets.now) (R.remaining input.old)
+    ensures { WritesSignature id.now at.now (texts secrets.now) (R.remaining input.old)
         (O.contents output.old) (O.contents output.new) result }
 {
     let asked = read_asked(alloc, id, at, secrets)?;

@@ -3,7 +3,8 @@ ghost use Rattle.std.specs.Prelude.{◌≡◌, ◌<◌, ◌≤◌, Bool, [], ◌
 ghost use Rattle.text_lines.specs.Parts.{line};
 ghost use Rattle.vegas.specs.declared.sample.Sample.{Sample as Taken};
 ghost use Rattle.vegas.specs.Estimators.{sample_of};
-ghost use Rattle.relay_commands.specs.Traces.{Traces, TracesSo, TracesTo, AnswersSample, ReadsSample, IsNoSample};
+ghost use Rattle.relay_commands.specs.Traces.{Traces, WritesTrace, ReportsTrace};
+ghost use Rattle.relay_commands.specs.Traces.{AnswersSample, ReadsSample, IsNoSample};
 ghost use Rattle.relay_commands.specs.Traces.{HasThreeWords, IsSample, answer_words, end_word, estimator_words};
 
 use command_interface::{CommandFault, end};
@@ -129,8 +130,8 @@ pub fn vegas<R: Read, O: Write, E: Write>(
     output: &mut O,
     errors: &mut E,
 ) -> u8
-    ensures traces { TracesTo explains max.now (R.remaining input.old) (O.contents output.old) (O.contents output.new)
-        (E.contents errors.old) (E.contents errors.new) result }
+    ensures traces { ReportsTrace explains max.now (R.remaining input.old)
+        (O.contents output.old) (O.contents output.new) (E.contents errors.old) (E.contents errors.new) result }
     ensures status { result ≤ 3 }
 {
     end(errors, follow_samples(alloc, max, explains, input, output))
@@ -143,7 +144,8 @@ fn follow_samples<R: Read, O: Write>(
     input: &mut R,
     output: &mut O,
 ) -> Result<(), CommandFault>
-    ensures { TracesSo explains max.now (R.remaining input.old) (O.contents output.old) (O.contents output.new) result }
+    ensures { WritesTrace explains max.now (R.remaining input.old)
+        (O.contents output.old) (O.contents output.new) result }
 {
     let max = read_max(max.as_bytes())?;
     Ok(trace(alloc, max, explains, input, output)?)
