@@ -81,13 +81,6 @@ impl<I: LogId> Published<I> {
         }
     }
 
-    /// The topic.
-    pub fn topic(&self) -> Name
-        ensures { result ≡ self.now.topic }
-    {
-        self.topic
-    }
-
     /// The id.
     pub fn id(&self) -> MsgId
         ensures { result ≡ self.now.id }

@@ -43,17 +43,17 @@ unchanged_reply why.OutOfTurn = says.Refused 2 fault.OutOfTurn
 unchanged_reply why.Illegal = says.Refused 3 fault.Illegal
 unchanged_reply why.OutOfMemory = says.Refused 4 fault.OutOfMemory
 
--- How the commit of a legal batch ends that continues the store's history. Which of receipt, batch
--- and doubt is held afterwards says how it ended.
-abbrev pub EndsCommit : {S : Type 0} → Ghosts S → VaultValue S → List Record → BatchValue → Held → Reply → Type 0
-EndsCommit g vault records batch (held.Receipt receipt) reply = (receipt ≡ batch) × (reply ≡ says.Committed vault.next)
-    × IsOpenAt g vault (records ++ records_of batch.steps)
-EndsCommit g vault records batch (held.Batch back) reply = (back ≡ batch) × (reply ≡ says.Refused 4 fault.OutOfMemory)
-    × IsOpenAt g vault records
-EndsCommit g vault records batch (held.Doubt doubt) reply = (doubt ≡ doubt_of batch)
-    × (reply ≡ says.Refused 5 fault.Store)
-    × IsTrue vault.closed × RestsInDoubt (store.state g vault.conn) records (records_of batch.steps)
-EndsCommit g vault records batch held.Nothing reply = ⊥
+module _ {S : Type 0} (g : Ghosts S) (vault : VaultValue S) (records : List Record) (batch : BatchValue) where
+  -- How the commit of a legal batch ends that continues the store's history. Which of receipt,
+  -- batch and doubt is held afterwards says how it ended.
+  abbrev pub EndsCommit : Held → Reply → Type 0
+  EndsCommit (held.Receipt receipt) reply = (receipt ≡ batch) × (reply ≡ says.Committed vault.next)
+      × IsOpenAt g vault (records ++ records_of batch.steps)
+  EndsCommit (held.Batch back) reply =
+      (back ≡ batch) × (reply ≡ says.Refused 4 fault.OutOfMemory) × IsOpenAt g vault records
+  EndsCommit (held.Doubt doubt) reply = (doubt ≡ doubt_of batch) × (reply ≡ says.Refused 5 fault.Store)
+      × IsTrue vault.closed × RestsInDoubt (store.state g vault.conn) records (records_of batch.steps)
+  EndsCommit held.Nothing reply = ⊥
 
 -- what a commit of the vault's next batch answers
 abbrev pub CommitsNext : {S : Type 0} → Ghosts S → VaultValue S → VaultValue S → BatchValue → Held → Reply → Type 0

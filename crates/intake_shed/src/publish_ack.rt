@@ -9,7 +9,7 @@ ghost use Rattle.intake_shed.specs.Acks.{AreBelow, AreLogged, AreSettled, ack_of
 use crate::ack::{Ack, is_settled};
 use delivery::{Keeper, Locked, LoggedKeeper, Published};
 use desk::{Desk, Ticket};
-use relay_types::{Body, MsgId, Name};
+use relay_types::{Body, MsgId};
 use run_log::{Log, LogId, Prefix};
 use std::marker::Model;
 use std::sync::ledger::Ledger;
@@ -87,13 +87,6 @@ impl<I: LogId> PublishAck<I> {
             prefix,
         } = self;
         Ack::new(latest_of(event.tickets()), body, prefix)
-    }
-
-    /// The topic.
-    pub fn topic(&self) -> Name
-        ensures { result ≡ self.now.event.topic }
-    {
-        self.event.topic()
     }
 
     /// The id.

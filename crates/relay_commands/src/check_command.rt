@@ -76,7 +76,7 @@ pub fn check_file<T: Start, O: Write, E: Write>(
 
 /// The same of the store of a connection, which is made where it `is_new` and has no table. The
 /// connection comes back. The caller sees by `is_autocommit` that it is outside a transaction.
-pub fn check_store<S: Alter, O: Write, E: Write>(
+pub(crate) fn check_store<S: Alter, O: Write, E: Write>(
     alloc: Global,
     conn: Connection<S>,
     is_new: bool,

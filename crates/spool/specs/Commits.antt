@@ -34,9 +34,7 @@ HandsBack batch (ends.Doubtful doubt cause) = doubt ≡ doubt_of batch
 abbrev pub IsRefused : CommitEnd → Type 0
 IsRefused (ends.Unchanged batch why.Closed) = Unit {0}
 IsRefused (ends.Unchanged batch why.OutOfTurn) = Unit {0}
-IsRefused (ends.Unchanged batch why.Illegal) = ⊥
-IsRefused (ends.Unchanged batch why.OutOfMemory) = ⊥
-IsRefused (ends.Doubtful doubt cause) = ⊥
+IsRefused _ = ⊥
 
 -- what is answered of a batch whose write ended so
 abbrev pub answer_of : BatchValue → WriteEnd → Result BatchValue CommitEnd
@@ -47,37 +45,34 @@ answer_of batch (Doubtful cause) = Err (ends.Doubtful (doubt_of batch) cause)
 
 -- nobody knows whether the batch was written
 abbrev pub IsDoubt : Result BatchValue CommitEnd → Type 0
-IsDoubt (Ok receipt) = ⊥
-IsDoubt (Err (ends.Unchanged batch reason)) = ⊥
 IsDoubt (Err (ends.Doubtful doubt cause)) = Unit {0}
+IsDoubt _ = ⊥
 
 -- Why nobody knows it: the store failed under this name, or memory was refused. Or else nothing was written to the
 -- disk.
 abbrev pub IsDoubtedFor : (old new : State) → Result BatchValue CommitEnd → Type 0
-IsDoubtedFor old new (Ok receipt) = Unit {0}
-IsDoubtedFor old new (Err (ends.Unchanged batch reason)) = Unit {0}
 IsDoubtedFor old new (Err (ends.Doubtful doubt cause)) = IsCause old new cause
+IsDoubtedFor old new _ = Unit {0}
 
--- what the answer says of the rows of a history that the vault held
-abbrev pub LeavesRows : {S : Type 0} → Ghosts S → (old new : VaultValue S) → BatchValue
-    → Result BatchValue CommitEnd → Type 0
-LeavesRows g old new batch (Ok receipt) = (records : List Record) → Holds g old records
-    → Rests (state g new.conn) (put_rows (rows_of records) (records_of batch.steps))
-LeavesRows g old new batch (Err (ends.Unchanged back reason)) = (records : List Record) → Holds g old records
-    → Rests (state g new.conn) (rows_of records)
-LeavesRows g old new batch (Err (ends.Doubtful doubt cause)) = (records : List Record) → Holds g old records
-    → MayLeave (state g new.conn)
-    (λ r. (r ≡ rows_of records) ⊎ (r ≡ put_rows (rows_of records) (records_of batch.steps)))
+module _ {S : Type 0} (g : Ghosts S) (old new : VaultValue S) (batch : BatchValue) where
+  -- what the answer says of the rows of a history that the vault held
+  abbrev pub LeavesRows : Result BatchValue CommitEnd → Type 0
+  LeavesRows (Ok receipt) = (records : List Record) → Holds g old records
+      → Rests (state g new.conn) (put_rows (rows_of records) (records_of batch.steps))
+  LeavesRows (Err (ends.Unchanged back reason)) =
+      (records : List Record) → Holds g old records → Rests (state g new.conn) (rows_of records)
+  LeavesRows (Err (ends.Doubtful doubt cause)) =
+      (records : List Record) → Holds g old records → MayLeave (state g new.conn)
+      (λ r. (r ≡ rows_of records) ⊎ (r ≡ put_rows (rows_of records) (records_of batch.steps)))
 
--- what the answer says of the history itself
-abbrev pub LeavesHistory : {S : Type 0} → Ghosts S → (old new : VaultValue S) → BatchValue
-    → Result BatchValue CommitEnd → Type 0
-LeavesHistory g old new batch (Ok receipt) = (records : List Record) → Holds g old records
-    → HoldsOnDisk g new (records ++ records_of batch.steps)
-LeavesHistory g old new batch (Err (ends.Unchanged back reason)) = (records : List Record) → Holds g old records
-    → HoldsOnDisk g new records
-LeavesHistory g old new batch (Err (ends.Doubtful doubt cause)) = (records : List Record) → Holds g old records
-    → RestsInDoubt (state g new.conn) records (records_of batch.steps)
+  -- what the answer says of the history itself
+  abbrev pub LeavesHistory : Result BatchValue CommitEnd → Type 0
+  LeavesHistory (Ok receipt) = (records : List Record) → Holds g old records
+      → HoldsOnDisk g new (records ++ records_of batch.steps)
+  LeavesHistory (Err (ends.Unchanged back reason)) =
+      (records : List Record) → Holds g old records → HoldsOnDisk g new records
+  LeavesHistory (Err (ends.Doubtful doubt cause)) = (records : List Record) → Holds g old records
+      → RestsInDoubt (state g new.conn) records (records_of batch.steps)
 
 -- the batch isn't legal after a history that the vault holds
 abbrev pub IsIllegal : {S : Type 0} → Ghosts S → VaultValue S → BatchValue → Type 0

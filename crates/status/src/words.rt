@@ -8,7 +8,7 @@ use relay_types::{MsgId, Name, State, Target};
 use serde_json::Value;
 
 /// When the next attempt is due, in seconds since the epoch: `null` unless the delivery is pending.
-pub fn due_value(state: State, due: Option<u64>) -> Value
+pub(crate) fn due_value(state: State, due: Option<u64>) -> Value
     ensures { view result ≡ or_null (due_of state due) }
 {
     match state {
@@ -18,14 +18,14 @@ pub fn due_value(state: State, due: Option<u64>) -> Value
 }
 
 /// The status of the last attempt: `null` where there is none, 0 where it had no answer.
-pub fn status_value(last_status: Option<u16>) -> Value
+pub(crate) fn status_value(last_status: Option<u16>) -> Value
     ensures { view result ≡ or_null last_status }
 {
     Value::from(last_status)
 }
 
 /// The name of a state.
-pub fn state_name(state: State) -> &'static str
+pub(crate) fn state_name(state: State) -> &'static str
     ensures { result.now ≡ state_name state }
 {
     match state {
@@ -36,7 +36,7 @@ pub fn state_name(state: State) -> &'static str
 }
 
 /// The characters of a name.
-pub fn name_text(name: &Name) -> &str
+pub(crate) fn name_text(name: &Name) -> &str
     ensures { result.now ≡ name.now }
 {
     visible_text(name.as_bytes())
@@ -50,7 +50,7 @@ pub fn id_text(id: &MsgId) -> &str
 }
 
 /// The characters of a target.
-pub fn url_text(url: &Target) -> &str
+pub(crate) fn url_text(url: &Target) -> &str
     ensures { result.now ≡ url.now }
 {
     visible_text(url.as_bytes())
