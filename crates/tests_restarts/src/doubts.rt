@@ -4,8 +4,7 @@ ghost use Rattle.std.specs.Prelude.{◌≡◌};
 
 use crate::calls::{Call, Path, check_replies, events_of, is_line_at};
 use crate::paths::{MEANWHILE, SEALED};
-use crate::runs::begun;
-use crate::stores::MARK;
+use crate::runs::{MARK, begun};
 use drill::{Event, Reply};
 use permits::PARTS;
 use relay_types::{Name, Record, Step};

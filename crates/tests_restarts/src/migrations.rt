@@ -4,9 +4,8 @@
 ghost use Rattle.std.specs.Prelude.{◌≡◌};
 
 use crate::calls::{Call, Path, check_replies, events_of};
-use crate::runs::closed;
+use crate::runs::{MARK, closed};
 use crate::stops::{Failing, come_back};
-use crate::stores::MARK;
 use drill::Reply;
 use permits::{PARTS, Pool};
 use recovery::reopen;

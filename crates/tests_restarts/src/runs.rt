@@ -3,7 +3,6 @@ ghost use Rattle.std.specs.Prelude.{◌≡◌, [], IfSome};
 ghost use Rattle.desk.specs.Desks.{HasNothingOut};
 
 use crate::calls::{Path, check_replies, events_of};
-use crate::stores::{MARK, again, in_memory};
 use desk::Desk;
 use drill::{Event, Reply, World, run};
 use permits::{PARTS, Pool};
@@ -14,6 +13,23 @@ use std::alloc::Global;
 use std::marker::Brand;
 use std::process::Abort;
 use std::sync::ledger::{Blank, Ledger};
+
+pub(crate) const MARK: u64 = 7;
+
+pub(crate) fn in_memory(rt: &impl Abort, alloc: Global) -> Connection<MemStore> {
+    match Connection::open_in_memory(alloc) {
+        Ok(conn) => conn,
+        Err(_) => panic!(rt; "no store"),
+    }
+}
+
+/// The store of the connection, opened over again.
+fn again(rt: &impl Abort, alloc: Global, conn: Connection<MemStore>) -> Connection<MemStore> {
+    match Connection::over(alloc, conn.into_store()) {
+        Ok(conn) => conn,
+        Err((_, _)) => panic!(rt; "the store was not opened over again"),
+    }
+}
 
 /// What a run leaves once its desk is closed with all that is out.
 pub(crate) type Left<L, S> = (Pool<L>, Vault<S>, Vec<Reply>);

@@ -3,8 +3,7 @@ ghost use Rattle.std.specs.Prelude.{◌≡◌, [], IfSome};
 
 use crate::calls::{Call, Path, events_of, is_line_at};
 use crate::paths::{PUT, PUT_OTHER};
-use crate::runs::{begun, closed};
-use crate::stores::MARK;
+use crate::runs::{MARK, begun, closed};
 use drill::{Event, Reply};
 use permits::{PARTS, Pool};
 use recovery::reopen;

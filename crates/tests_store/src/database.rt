@@ -1,6 +1,6 @@
 //! Databases in memory, and what is asked of them.
 
-use sqlite::{Alter, Connection};
+use sqlite::{Alter, Connection, MemStore};
 use std::alloc::Global;
 use std::process::Abort;
 use std::test::Fail;
@@ -32,12 +32,14 @@ pub(crate) fn count_all<S: Alter>(
     Ok(())
 }
 
-/// The rows that the query gives.
-pub(crate) fn answer<S: Alter>(
+/// The store, opened over again.
+pub(crate) fn again(
+    rt: &impl Abort,
     alloc: Global,
-    conn: &mut Connection<S>,
-    sql: &str,
-) -> Result<String, Fail> {
-    let rows = conn.query_all(sql, &[])?;
-    Ok(format!(in alloc; "{rows:?}")?)
+    conn: Connection<MemStore>,
+) -> Connection<MemStore> {
+    match Connection::over(alloc, conn.into_store()) {
+        Ok(conn) => conn,
+        Err((_, _)) => panic!(rt; "the store was not opened again"),
+    }
 }

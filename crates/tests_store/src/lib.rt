@@ -1,11 +1,7 @@
-//! The tests of the store: `spool_sql`, `spool` and `recovery`. Nothing stands on this crate, and
-//! its tests call public items only.
+//! The tests of the store: `spool_sql` and `spool`. Nothing stands on this crate, and its tests call
+//! public items only.
 #![tactic(auto)]
 
-#[cfg(test)]
-mod attempts;
-#[cfg(test)]
-mod conditions;
 #[cfg(test)]
 mod database;
 #[cfg(test)]
@@ -13,19 +9,11 @@ mod draws;
 #[cfg(test)]
 mod entries;
 #[cfg(test)]
-mod files;
-#[cfg(test)]
 mod histories;
 #[cfg(test)]
 mod loads;
 #[cfg(test)]
-mod migrations;
-#[cfg(test)]
-mod openings;
-#[cfg(test)]
 mod purges;
-#[cfg(test)]
-mod refusals;
 #[cfg(test)]
 mod same;
 #[cfg(test)]
@@ -36,7 +24,5 @@ mod statements;
 mod stories;
 #[cfg(test)]
 mod tables;
-#[cfg(test)]
-mod topics;
 #[cfg(test)]
 mod vaults;

@@ -1,14 +1,10 @@
 //! What Purges take from the tables of a vault.
 
 use crate::entries::{Entry, Keys};
-use crate::openings::again;
-use crate::stories::{Look, Step, Story, walk, walk_through};
-use crate::tables::{EVENT_A, PUT_A, walk_adopted};
-use crate::vaults::{Moments, Span, Spool, Told};
+use crate::stories::{Look, Step, Story, walk};
+use crate::tables::{EVENT_A, PUT_A, left_after, walk_adopted};
+use crate::vaults::{Moments, Span, Told};
 use spool::Unchanged;
-use sqlite::{Connection, MemStore};
-use std::alloc::Global;
-use std::process::Abort;
 use std::test::Fail;
 
 /// The greatest moment.
@@ -367,19 +363,6 @@ static AND_IS_ADOPTED: Story = Story {
         ("SELECT seq FROM deliveries", 5),
     ],
 };
-
-/// The store of a vault that takes the steps, opened over again.
-fn left_after(
-    rt: &impl Abort,
-    alloc: Global,
-    steps: &[Step],
-) -> Result<Connection<MemStore>, Fail> {
-    let (told, conn) = walk_through(rt, alloc, Spool::new(alloc, None)?, steps);
-    match told {
-        Ok(()) => Ok(again(rt, alloc, conn)),
-        Err(fail) => Err(fail),
-    }
-}
 
 #[test]
 fn a_flag_without_its_attempt_is_adopted(rt: HostRuntime) -> Result<(), Fail> {

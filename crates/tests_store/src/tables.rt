@@ -2,13 +2,13 @@
 //!
 //! The rows themselves are read by `scripts/store tables`.
 
-use crate::database::count_all;
+use crate::database::{again, count_all};
 use crate::entries::{Entry, Keys};
-use crate::openings::{Start, made};
-use crate::stories::{Look, Step, Story, walk, walk_on};
+use crate::stories::{Look, Step, Story, walk, walk_on, walk_through};
 use crate::vaults::{MARK, Spool, Told, opened};
 use spool::{OpenFault, Unchanged, Vault};
-use sqlite::{Alter, Connection};
+use sqlite::{Alter, Connection, MemStore};
+use sqlite_value::value::ValueRef;
 use std::alloc::Global;
 use std::process::Abort;
 use std::test::Fail;
@@ -327,9 +327,45 @@ pub(crate) fn walk_adopted<S: Alter + Drop>(
     walk_on(rt, alloc, Spool::of(alloc, adopted(alloc, conn)?)?, story)
 }
 
+/// The store of a vault that takes the steps, opened over again.
+pub(crate) fn left_after(
+    rt: &impl Abort,
+    alloc: Global,
+    steps: &[Step],
+) -> Result<Connection<MemStore>, Fail> {
+    let (told, conn) = walk_through(rt, alloc, Spool::new(alloc, None)?, steps);
+    match told {
+        Ok(()) => Ok(again(rt, alloc, conn)),
+        Err(fail) => Err(fail),
+    }
+}
+
+static ENDPOINT_A: &[Step] = &[Step::Enter(PUT_A, Told::Written)];
+
+fn add_topic<S: Alter>(alloc: Global, conn: &mut Connection<S>, number: u32) -> Result<(), Fail> {
+    let topic = format!(in alloc; "t{number}")?;
+    let values = [
+        ValueRef::Text(topic.as_bytes()),
+        ValueRef::Int(i64::from(number)),
+    ];
+    conn.execute("INSERT INTO topics VALUES(?1, 0, 1, ?2 + 1)", &values)?;
+    Ok(())
+}
+
+/// Subscribes endpoint `a` to so many topics, beside the vault.
+fn add_topics<S: Alter>(alloc: Global, conn: &mut Connection<S>, count: u32) -> Result<(), Fail> {
+    conn.execute_batch("BEGIN")?;
+    for number in 0..count {
+        add_topic(alloc, conn, number)?;
+    }
+    let text = format!(in alloc; "UPDATE meta SET records = {count} + 1; COMMIT")?;
+    Ok(conn.execute_batch(&text)?)
+}
+
 #[test]
 fn at_most_4096_topics(rt: HostRuntime) -> Result<(), Fail> {
-    let conn = made(&rt, rt.alloc(), Start::Topics(4095), &[]);
+    let mut conn = left_after(&rt, rt.alloc(), ENDPOINT_A)?;
+    add_topics(rt.alloc(), &mut conn, 4095)?;
     walk_adopted(&rt, rt.alloc(), conn, &AT_MOST_4096_TOPICS)
 }
 

@@ -1,4 +1,4 @@
-use Rattle.tests_restarts.proofs.histories.after.Given as goal
+use Rattle.tests_recovery.proofs.histories.after.Given as goal
 
 abbrev pub ghosts-visit : goal.ghosts-visit
 ghosts-visit g a = record { name = a.blank.name; parts = a.blank.parts }

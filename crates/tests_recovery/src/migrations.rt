@@ -3,10 +3,10 @@
 ghost use Rattle.std.specs.Prelude.{◌≡◌};
 
 use crate::conditions::{DAMAGED, ENDPOINT, EVENT};
-use crate::database::Count;
 use crate::openings::{
-    ATTEMPTED, Start, adopted, again, look, made, migrated, pool_of, reopened, same_text,
+    ATTEMPTED, Start, adopted, look, made, migrated, pool_of, reopened, same_text,
 };
+use crate::stores::{Count, again};
 use permits::PARTS;
 use sqlite::{Alter, Connection, MemStore};
 use std::alloc::Global;

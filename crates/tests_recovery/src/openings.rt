@@ -2,20 +2,19 @@
 ghost use Rattle.std.specs.Prelude.{◌≡◌, []};
 
 use crate::conditions::ENDPOINT;
-use crate::database::{Count, answer, count_all};
-use crate::entries::{body_of, name_of};
-use crate::vaults::{MARK, opened};
+use crate::stores::{Count, MARK, again, count_all, rows_of};
 use delivery_book::Row;
 use desk::{Command, Desk, Fault, Refusal};
 use permits::{PARTS, Pool};
 use recovery::reopen;
-use relay_types::{MAX_RECORDS, Moment, MsgId, Name, State};
+use relay_types::{Body, MAX_RECORDS, Moment, MsgId, Name, State};
 use spool::{Books, OpenFault, Vault};
 use sqlite::{Alter, Connection, MemStore};
 use sqlite_value::value::ValueRef;
-use std::alloc::Global;
+use std::alloc::{AllocError, Global};
 use std::marker::Brand;
 use std::process::Abort;
+use std::sync::Arc;
 use std::sync::ledger::{Blank, Ledger};
 use std::test::Fail;
 
@@ -173,36 +172,23 @@ fn filled<S: Alter + Drop>(
     Ok(conn)
 }
 
+/// The store of a new vault.
+fn created<S: Alter + Drop>(conn: Connection<S>) -> Result<Connection<S>, Fail> {
+    if !conn.is_autocommit() {
+        return Err(Fail::from("a transaction is open"));
+    }
+    match Vault::create(conn, MARK) {
+        Ok(vault) => Ok(vault.release()),
+        Err((_, _)) => Err(Fail::from("create was refused")),
+    }
+}
+
 fn begun(alloc: Global, start: Start) -> Result<Connection<MemStore>, Fail> {
+    let conn = Connection::open_in_memory(alloc)?;
     match start {
-        Start::Nothing | Start::First => Ok(Connection::open_in_memory(alloc)?),
-        _ => Ok(opened(alloc, None)?.release()),
+        Start::Nothing | Start::First => Ok(conn),
+        _ => created(conn),
     }
-}
-
-/// The store, opened over again.
-pub(crate) fn again(
-    rt: &impl Abort,
-    alloc: Global,
-    conn: Connection<MemStore>,
-) -> Connection<MemStore> {
-    match Connection::over(alloc, conn.into_store()) {
-        Ok(conn) => conn,
-        Err((_, _)) => panic!(rt; "the store was not opened again"),
-    }
-}
-
-/// All rows, before and after the opening.
-fn told<S: Alter>(
-    alloc: Global,
-    conn: &mut Connection<S>,
-    queries: &[&str],
-) -> Result<String, Fail> {
-    let mut text = String::new(alloc);
-    for sql in queries {
-        text.push_str(&answer(alloc, conn, sql)?)?;
-    }
-    Ok(text)
 }
 
 fn text_or_abort(rt: &impl Abort, text: Result<String, Fail>) -> String {
@@ -212,7 +198,7 @@ fn text_or_abort(rt: &impl Abort, text: Result<String, Fail>) -> String {
     }
 }
 
-/// The rows that the queries give, where each of the others gives its number.
+/// The rows that the queries give. Each of the others gives its number.
 pub(crate) fn look<S: Alter>(
     rt: &impl Abort,
     alloc: Global,
@@ -220,14 +206,22 @@ pub(crate) fn look<S: Alter>(
     queries: &[&str],
     counts: &[Count],
 ) -> String {
-    if let Err(_) = count_all(rt, conn, counts) {
-        panic!(rt; "a query was refused");
-    }
-    text_or_abort(rt, told(alloc, conn, queries))
+    count_all(rt, conn, counts);
+    rows_of(rt, alloc, conn, queries)
 }
 
 pub(crate) fn same_text(rt: &impl Abort, found: &str, wanted: &str, place: usize) {
     assert!(rt; found == wanted, "{found} at {place}");
+}
+
+fn name_of(letter: u8) -> Result<Name, Fail> {
+    Ok(Name::read(&[letter])?)
+}
+
+fn body_of(alloc: Global, bytes: &[u8]) -> Result<Body, Fail> {
+    let bytes = Vec::from_slice(alloc, bytes)?;
+    let shared = Arc::new(alloc, bytes).map_err(AllocError::from)?;
+    Ok(Body::of(shared)?)
 }
 
 /// How many records there are, whether endpoint `a` is enabled, and its event `msg_1`.

@@ -6,6 +6,9 @@ use std::process::Abort;
 
 pub(crate) const MARK: u64 = 7;
 
+/// A query of one number, and that number.
+pub(crate) type Count = (&'static str, i64);
+
 pub(crate) fn in_memory(rt: &impl Abort, alloc: Global) -> Connection<MemStore> {
     match Connection::open_in_memory(alloc) {
         Ok(conn) => conn,
@@ -35,7 +38,18 @@ pub(crate) fn number<S: Alter>(rt: &impl Abort, conn: &mut Connection<S>, sql: &
     row.get(0).expect(rt, "a number")
 }
 
-static TABLES: [&str; 6] = [
+fn same_number(rt: &impl Abort, found: i64, wanted: i64, sql: &str) {
+    assert!(rt; found == wanted, "{found} at {sql}");
+}
+
+/// Each query gives its number.
+pub(crate) fn count_all<S: Alter>(rt: &impl Abort, conn: &mut Connection<S>, counts: &[Count]) {
+    for (sql, wanted) in counts {
+        same_number(rt, number(rt, conn, sql), *wanted, sql);
+    }
+}
+
+static TABLES: &[&str] = &[
     "SELECT rowid, * FROM meta",
     "SELECT rowid, * FROM endpoints",
     "SELECT rowid, * FROM secrets",
@@ -56,15 +70,25 @@ fn add_rows<S: Alter>(
     text.push_str(&rows).expect(rt, "memory");
 }
 
+/// The rows that the queries give.
+pub(crate) fn rows_of<S: Alter>(
+    rt: &impl Abort,
+    alloc: Global,
+    conn: &mut Connection<S>,
+    queries: &[&str],
+) -> String {
+    let mut text = String::new(alloc);
+    for sql in queries {
+        add_rows(rt, alloc, conn, sql, &mut text);
+    }
+    text
+}
+
 /// All rows, table by table.
 pub(crate) fn all_rows<S: Alter>(
     rt: &impl Abort,
     alloc: Global,
     conn: &mut Connection<S>,
 ) -> String {
-    let mut text = String::new(alloc);
-    for sql in TABLES.iter() {
-        add_rows(rt, alloc, conn, sql, &mut text);
-    }
-    text
+    rows_of(rt, alloc, conn, TABLES)
 }
