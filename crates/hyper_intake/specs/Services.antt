@@ -6,6 +6,7 @@ use Rattle.std.specs.declared.sync.Arc.{Arc}
 use Rattle.std.specs.declared.sync.Mutex.{Mutex}
 use Rattle.std.specs.declared.sync.atomic.AtomicU64.{AtomicU64}
 use Rattle.relay_types.specs.declared.limits.TheConstants.{MAX_BODY_BYTES}
+use Rattle.relay_types.specs.declared.record.Record.{Record}
 use Rattle.hyper.specs.declared.error.Error.{Error}
 use Rattle.http.specs.declared.request.Parts.{Parts}
 use Rattle.http.specs.declared.request.Request.{Request}
@@ -44,7 +45,8 @@ module _ {R L I : Type 0} where
     pub over : IfSome future.owners (λ owners. arc_value owners.shared ≡ arc_value (shared_of intake))
 
 -- If the body comes so, the response to this head may be this one, or there is none.
-abbrev pub MayRespond : {E : Type 0} (comes : Result Collected (LimitedError Error) → Type 0) → Option Parts
-    → Result (Response (Full (List ℕ))) E → Type 0
-MayRespond comes asked response = (gathered : Result Collected (LimitedError Error)) × comes gathered
-    × IfSome asked (λ head. IfOk response (IsResponseTo head gathered))
+abbrev pub MayRespond : {E : Type 0} (is_base : List Record → Type 0)
+    (comes : Result Collected (LimitedError Error) → Type 0) → Option Parts → Result (Response (Full (List ℕ))) E
+    → Type 0
+MayRespond is_base comes asked response = (gathered : Result Collected (LimitedError Error)) × comes gathered
+    × IfSome asked (λ head. IfOk response (IsResponseTo is_base head gathered))

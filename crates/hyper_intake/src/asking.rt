@@ -63,7 +63,7 @@ where
     R: Wait + Clock + RandomSource + AllocGlobal,
     L: Ledger,
     I: LogId,
-    ensures { RepliesTo head.now body.entry result }
+    ensures { RepliesTo I.is_base head.now body.entry result }
 {
     let Ok(ids) = ids_of(rt.alloc(), &head.headers) else {
         return RequestError::OutOfMemory.reply();

@@ -153,7 +153,7 @@ where
 
     ghost can_poll = { λ a. C.can_poll a.body };
 
-    ghost gives = { λ a. MayRespond (C.gives a.body) a.head };
+    ghost gives = { λ a. MayRespond I.is_base (C.gives a.body) a.head };
 
     ghost needs = { λ a. C.needs a.body };
 
@@ -181,7 +181,7 @@ where
     R: Wait + Clock + RandomSource + AllocGlobal,
     L: Ledger,
     I: LogId,
-    ensures { IfOk result (IsResponseTo head.now gathered) }
+    ensures { IfOk result (IsResponseTo I.is_base head.now gathered) }
 {
     if has_unknown_coding(&head.headers) {
         return Ok(not_implemented(rt.alloc()));

@@ -1,11 +1,11 @@
 -- Acknowledged events, and confirmed changes.
-use Rattle.std.specs.Prelude.{◌≡◌, ℕ, ◌<◌, All, List, ◌++◌, length, Option, Some}
+use Rattle.std.specs.Prelude.{◌≡◌, ℕ, ◌<◌, All, List, ◌++◌, length, IfSome, Option, Some}
 use Rattle.relay_types.specs.declared.record.Record.{Record}
 use Rattle.relay_types.specs.Records.{Accepted}
 use Rattle.relay_types.specs.Deliveries.{accept_at}
 use Rattle.relay_types.specs.Values.{Text, Seq}
 use Rattle.desk.specs.declared.ticket.Ticket.{Ticket}
-use Rattle.delivery.specs.Logs.{ChangeValue, PublishedValue}
+use Rattle.delivery.specs.Logs.{ChangeValue, HasChange, PublishedValue}
 
 -- the number of the event's record, its endpoint, its id and its body, and a prefix of the run's
 -- log
@@ -62,6 +62,14 @@ IsLogged is_base ack log = (base : List Record) → is_base base → HasEvent (b
 abbrev pub AreLogged : (is_base : List Record → Type 0) → PublishAckValue → (log : List Record) → Type 0
 AreLogged is_base ack log = (base : List Record) → is_base base
     → All (λ t. HasEvent (base ++ log) t.seq t.name ack.event.id ack.body) ack.event.tickets
+
+-- What a reply reports is in the history before the run and the log: an event that is acknowledged, an event for a
+-- topic at each subscriber, a change that is confirmed.
+abbrev pub AreInLog : (is_base : List Record → Type 0) → Option AckValue → Option PublishAckValue → Option ChangeValue
+    → Type 0
+AreInLog is_base given published confirmed = IfSome given (λ ack. IsLogged is_base ack ack.prefix)
+    × IfSome published (λ ack. (0 < length ack.event.tickets) × AreLogged is_base ack ack.prefix)
+    × IfSome confirmed (λ change. HasChange is_base change change.prefix)
 
 -- there are tickets, and each of them has this body
 abbrev pub AreSettled : (body_of : Ticket → Option Text) → List Ticket → (body : Text) → Type 0

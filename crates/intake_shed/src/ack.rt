@@ -148,9 +148,10 @@ impl<I: LogId> Ack<I> {
         self.ticket.id
     }
 
-    /// The number of the event's record.
+    /// The number of the event's record, at which the log has it.
     pub fn seq(&self) -> u64
-        ensures { result ≡ self.now.seq }
+        ensures value { result ≡ self.now.seq }
+        ensures logged { IsLogged I.is_base self.now self.now.prefix }
     {
         self.ticket.seq
     }

@@ -1,5 +1,6 @@
 //! The answer to a request.
 ghost use Rattle.std.specs.Prelude.{◌≡◌, ◌≤◌, ◌⊎◌, Some, IfOk, IsTrue};
+ghost use Rattle.intake_shed.specs.Acks.{AreInLog};
 ghost use Rattle.intake_shed.specs.Pages.{asks_for_page};
 ghost use Rattle.intake_shed.specs.Replies.{ask_reply};
 ghost use Rattle.intake_shed.specs.Requests.{AsksFor, IsRefusal, IsRefusedFor};
@@ -26,8 +27,8 @@ use std::sync::Wait;
 use std::sync::ledger::Ledger;
 
 /// Answers a request. An event or a change is answered once it is settled, or won't be. A page
-/// shows what is settled then. An event without an id gets the fresh one. If an allocation for the
-/// reply fails, what was done stays done.
+/// shows what is settled then. An event without an id gets the fresh one. What the reply reports is
+/// in the log. If an allocation for the reply fails, what was done stays done.
 pub fn answer<L: Ledger, I: LogId, R: Wait>(
     rt: &R,
     alloc: Global,
@@ -43,6 +44,7 @@ pub fn answer<L: Ledger, I: LogId, R: Wait>(
         → OrOutOfMemory (Answers what pass.new result.reply result.ack result.published result.confirmed) result.reply }
     ensures refuses { (why : RequestError) → IsRefusedFor ask.now why
         → OrOutOfMemory (result.reply ≡ ask_reply why) result.reply }
+    ensures logged { AreInLog I.is_base result.ack result.published result.confirmed }
     ensures pass { pass.old ≤ pass.new }
 {
     match read_ask(alloc, ask, fresh) {
@@ -65,6 +67,7 @@ fn answer_asked<L: Ledger, I: LogId, R: Wait>(
     pass: &mut Pass,
 ) -> Answered<I>
     ensures answers { Answers asked pass.new result.reply result.ack result.published result.confirmed }
+    ensures logged { AreInLog I.is_base result.ack result.published result.confirmed }
     ensures pass { pass.old ≤ pass.new }
 {
     match asked {
@@ -95,6 +98,7 @@ fn answer_change<L: Ledger, I: LogId, R: Wait>(
 ) -> Answered<I>
     ensures answers { ConfirmsChange command pass.new result.reply result.confirmed
         ⊎ FailsBy (may_fail command) result.reply }
+    ensures logged { AreInLog I.is_base result.ack result.published result.confirmed }
     ensures pass { pass.old ≤ pass.new }
 {
     let status = change_status(&command);
@@ -118,6 +122,7 @@ fn answer_change<L: Ledger, I: LogId, R: Wait>(
 fn answer_event<I: LogId>(alloc: Global, waited: Result<Ack<I>, SubmitError>) -> Answered<I>
     ensures replied { IsEventReply waited result.reply }
     ensures given { IfOk waited (λ ack. result.ack ≡ Some ack) }
+    ensures logged { AreInLog I.is_base result.ack result.published result.confirmed }
 {
     match waited {
         Ok(ack) => Answered {
@@ -142,6 +147,7 @@ fn answer_publish<I: LogId>(
 ) -> Answered<I>
     ensures replied { IsPublishReply waited result.reply }
     ensures given { IfOk waited (λ ack. result.published ≡ Some ack) }
+    ensures logged { AreInLog I.is_base result.ack result.published result.confirmed }
 {
     match waited {
         Ok(ack) => Answered {

@@ -60,9 +60,10 @@ impl<I: LogId> Confirmed<I> {
         change.ticket().seq
     }
 
-    /// The number of the change's record.
+    /// The number of the change's record, at which the log has it.
     pub fn seq(&self) -> u64
-        ensures { result ≡ self.now.seq }
+        ensures value { result ≡ self.now.seq }
+        ensures logged { HasChange I.is_base self.now self.now.prefix }
     {
         self.change.ticket().seq
     }

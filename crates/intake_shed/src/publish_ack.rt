@@ -31,7 +31,8 @@ impl<I: LogId> Model for PublishAck<I> {
 
     ghost view = { λ a. publish_ack_of a.event a.body a.prefix };
 
-    ghost invariant = { λ a. (0 < length a.event.tickets) × AreLogged I.is_base (publish_ack_of a.event a.body a.prefix) a.prefix };
+    ghost invariant = { λ a. (0 < length a.event.tickets)
+        × AreLogged I.is_base (publish_ack_of a.event a.body a.prefix) a.prefix };
 }
 
 impl<I: LogId> PublishAck<I> {
@@ -96,10 +97,12 @@ impl<I: LogId> PublishAck<I> {
         self.event.id()
     }
 
-    /// The tickets of the topic's subscribers, in the order of their Puts.
+    /// The tickets of the topic's subscribers, in the order of their Puts. The log has the event at
+    /// each of their numbers.
     pub fn tickets(&self) -> &[Ticket]
         ensures value { result.now ≡ self.now.event.tickets }
         ensures subscribers { HasTickets I.is_base self.now.event self.now.event.prefix }
+        ensures logged { (0 < length self.now.event.tickets) × AreLogged I.is_base self.now self.now.prefix }
     {
         self.event.tickets()
     }

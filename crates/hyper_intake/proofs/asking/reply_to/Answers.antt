@@ -16,5 +16,6 @@ returns g c = inl (
     body = refl;
   },
   c.in-Ok-fresh_id.ensures,
+  c.answer-reply.ensures.logged,
   c.answer-reply.ensures.answers,
 )

@@ -54,6 +54,7 @@ long_came (Err (Body error)) read whole cut is = by (cut error refl)
 
 pub returns : goal.returns
 returns g c =
+    let answers = RepliesTo g.I.LogId.is_base c.args.head.now in
     let read = c.read_body.ensures in
     let whole = whole_came c.args.gathered c.read_body.result read.whole read.long read.cut in
     inr (
@@ -64,17 +65,17 @@ returns g c =
         | in-Whole+in-Some-1 w ↦ inl (
           sent.Whole w.as_slice.result,
           whole w.as_slice.result (w.in-Whole.is ∙ ap Whole (sym w.as_slice.ensures)),
-          subst (RepliesTo c.args.head.now (sent.Whole w.as_slice.result)) (sym w.reply-is) w.reply_to-reply.ensures,
+          subst (answers (sent.Whole w.as_slice.result)) (sym w.reply-is) w.reply_to-reply.ensures,
         )
         | in-Whole+in-None-1 w ↦ inl (
           sent.Whole w.as_slice.result,
           whole w.as_slice.result (w.in-Whole.is ∙ ap Whole (sym w.as_slice.ensures)),
-          subst (RepliesTo c.args.head.now (sent.Whole w.as_slice.result)) (sym w.reply-is) w.reply_to-reply.ensures,
+          subst (answers (sent.Whole w.as_slice.result)) (sym w.reply-is) w.reply_to-reply.ensures,
         )
         | in-TooLong w ↦ inl (
           sent.TooLong,
           long_came c.args.gathered c.read_body.result read.whole read.cut w.in-TooLong.is,
-          subst (RepliesTo c.args.head.now sent.TooLong) (sym w.reply-is) w.reply_to-reply-in-TooLong.ensures,
+          subst (answers sent.TooLong) (sym w.reply-is) w.reply_to-reply-in-TooLong.ensures,
         )
         | in-NoMemory w ↦ inr (w.reply-is ∙ w.reply-reply.ensures)
       ],

@@ -17,3 +17,6 @@ returns-in-Err-clause-asks g c = λ what h. not_read_lacks what _ c.in-Err.reply
 
 pub returns-in-Err-clause-refuses : goal.returns-in-Err-clause-refuses
 returns-in-Err-clause-refuses g c = λ why h. refused_reply why c.in-Err.reply (c.in-Err.ensures.refuses why h)
+
+pub returns-in-Err-clause-logged : goal.returns-in-Err-clause-logged
+returns-in-Err-clause-logged g c = (tt, tt, tt)

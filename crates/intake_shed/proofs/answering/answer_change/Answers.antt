@@ -8,6 +8,13 @@ returns-in-Ok-clause-answers g c =
     let reply = c.change_reply.result in
     let done : IsDone (change_status c.args.command) (change_text change.seq) reply =
     subst (λ (s : ℕ). IsDone s (change_text change.seq) reply) c.change_status-status.ensures
-    (subst (λ (n : ℕ). IsDone c.change_status-status.result (change_text n) reply) c.seq.ensures c.change_reply.ensures)
+    (subst (λ (n : ℕ). IsDone c.change_status-status.result (change_text n) reply) c.seq.ensures.value
+    c.change_reply.ensures)
     in
     inl (change, refl, c.in-Ok.ensures.change, c.in-Ok.ensures.seen, done)
+
+pub returns-in-Ok-clause-logged : goal.returns-in-Ok-clause-logged
+returns-in-Ok-clause-logged g c = (tt, tt, c.seq.ensures.logged)
+
+pub returns-in-Err-clause-logged : goal.returns-in-Err-clause-logged
+returns-in-Err-clause-logged g c = (tt, tt, tt)
