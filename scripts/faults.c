@@ -5,6 +5,7 @@
 //   FAULT_SLOW=N        Each call that reads a file by place takes N microseconds longer.
 //   FAULT_READ=N        The Nth read of standard input fails, and each later one. A read gives FAULT_PIECE bytes at most.
 //   FAULT_WRITE=N       The same of writes to standard output.
+//   FAULT_INTERRUPT=N   The Nth read of standard input is interrupted, and the Nth write to standard output and to standard error.
 //   FAULT_STOP=N        The machine stops at the Nth call that writes, cuts or syncs a file by place: of what the files were given since they were
 //                       last synced a part is lost, and the process ends at once with status 9. FAULT_LOSE is what is lost: `all`, `none`, or a
 //                       number, by which each write is kept, lost or cut at a sector.
@@ -62,10 +63,15 @@ static int is_failed(void) {
 
 // Standard streams that fail
 
-static unsigned long fail_stream[2], made[2], piece;
+static unsigned long fail_stream[3], made[3], interrupt, piece;
 
 static int is_stream_failed(int file) {
-    if (fail_stream[file] == 0 || ++made[file] < fail_stream[file])
+    made[file]++;
+    if (made[file] == interrupt) {
+        errno = EINTR;
+        return 1;
+    }
+    if (fail_stream[file] == 0 || made[file] < fail_stream[file])
         return 0;
     errno = EIO;
     return 1;
@@ -267,6 +273,7 @@ __attribute__((constructor)) static void start(void) {
     has("FAULT_SLOW", &slow);
     has("FAULT_READ", &fail_stream[0]);
     has("FAULT_WRITE", &fail_stream[1]);
+    has("FAULT_INTERRUPT", &interrupt);
     has("FAULT_PIECE", &piece);
     asked = mapped(getenv("FAULT_ASKED"));
     if (asked == NULL)
@@ -344,7 +351,7 @@ ssize_t read(int file, void *bytes, size_t count) {
 
 ssize_t write(int file, const void *bytes, size_t count) {
     NEXT(write);
-    if (file != 1)
+    if (file != 1 && file != 2)
         return next(file, bytes, count);
     return is_stream_failed(file) ? -1 : next(file, bytes, within(count));
 }

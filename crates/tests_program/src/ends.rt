@@ -1,170 +1,57 @@
-// How commands end, and that they get on with readers and writers that give or take little.
+// How a command ends: the line of its fault, through writers that take little or nothing.
 
-use crate::program::{EXAMPLE, EXAMPLE_BODY, SCRIPT, SECRET};
-use crate::streams::{Calls, Streams, Writer, check, holds, tell_through};
+use crate::streams::{Calls, Writer, holds};
 use command_interface::{CommandFault, StoreFault, end};
-use relay_commands::sign;
+use relay_types::ReadFault;
 use std::alloc::{AllocError, Global};
 use std::process::Abort;
-use std::test::Fail;
-use text_lines::StreamFault;
+use text_lines::{StreamFault, secrets_of, write_bytes};
 
-/// A long text that is read, or told, a byte at a time.
+/// How a writer takes its calls, and what it has of `staged 0` once it has failed.
 #[derive(Clone, Copy)]
-struct Long {
-    words: &'static [&'static str],
-    line: &'static str,
-    count: usize,
-    rest: &'static str,
-    reply: &'static str,
-    end: &'static str,
-    errors: &'static str,
-    status: u8,
-}
-
-// Over 1,500 reads of one byte, and a fault that is written byte by byte. The header is that of Python's hmac.
-static LONG: &[Long] = &[
-    Long {
-        words: &["relayd", "replay"],
-        line: "seal\n",
-        count: 300,
-        rest: "fly\n",
-        reply: "nothing\n",
-        end: "",
-        errors: "relayd: line 301: bad line\n",
-        status: 2,
-    },
-    Long {
-        words: &["relayd", "sign", "msg_1", "1000", SECRET],
-        line: "aaaaa",
-        count: 300,
-        rest: "",
-        reply: "",
-        end: "v1,EMvyJS7ChJFPhceI/ew8iUyUewHL/lPPEPqSM5LF0Qw=\n",
-        errors: "",
-        status: 0,
-    },
-];
-
-// Which call is interrupted, if any is.
-static INTERRUPTED: &[u32] = &[1, 2, 40, 100_000];
-
-fn repeated(alloc: Global, text: &str, count: usize, rest: &str) -> Result<String, Fail> {
-    let many = text.repeat(alloc, count)?;
-    Ok(format!(in alloc; "{many}{rest}")?)
-}
-
-#[test]
-fn gets_on_a_byte_at_a_time(rt: HostRuntime) -> Result<(), Fail> {
-    for (place, long) in LONG.iter().enumerate() {
-        let text = repeated(rt.alloc(), long.line, long.count, long.rest)?;
-        let output = repeated(rt.alloc(), long.reply, long.count, long.end)?;
-        for interrupted in INTERRUPTED {
-            let streams = Streams::of(Calls::slow(*interrupted));
-            let told = tell_through(&rt, streams, long.words, text.as_bytes());
-            check(&rt, &told, output.as_str(), long.errors, long.status, place);
-        }
-    }
-    Ok(())
-}
-
-/// A run whose reader or writer fails: what is written before, and what it reports.
-#[derive(Clone, Copy)]
-struct Broken {
-    words: &'static [&'static str],
-    text: &'static str,
-    // The most bytes of a read and how many reads are answered, and the same of writes.
-    input: (usize, u32),
-    output: (usize, u32),
+struct Cut {
+    most: usize,
+    good: u32,
     written: &'static str,
-    told: &'static str,
 }
 
-const WHOLE: (usize, u32) = (usize::MAX, u32::MAX);
-
-static BROKEN: &[Broken] = &[
-    Broken {
-        words: &["relayd", "replay"],
-        text: SCRIPT,
-        input: (7, 12),
-        output: WHOLE,
-        written: "staged 0\nsealed 0..1\n",
-        told: "relayd: Read\n",
+static CUTS: &[Cut] = &[
+    Cut {
+        most: 3,
+        good: 2,
+        written: "staged",
     },
-    Broken {
-        words: &["relayd", "replay"],
-        text: SCRIPT,
-        input: WHOLE,
-        output: (100, 3),
-        written: "staged 0\nsealed 0..1\ncommitted 1\n",
-        told: "relayd: Write\n",
-    },
-    Broken {
-        words: &["relayd", "replay"],
-        text: SCRIPT,
-        input: WHOLE,
-        output: (0, u32::MAX),
+    Cut {
+        most: 100,
+        good: 0,
         written: "",
-        told: "relayd: Write\n",
     },
-    Broken {
-        words: EXAMPLE,
-        text: EXAMPLE_BODY,
-        input: (7, 3),
-        output: WHOLE,
+    // it takes no byte
+    Cut {
+        most: 0,
+        good: u32::MAX,
         written: "",
-        told: "relayd: Read\n",
-    },
-    Broken {
-        words: EXAMPLE,
-        text: EXAMPLE_BODY,
-        input: WHOLE,
-        output: (100, 0),
-        written: "",
-        told: "relayd: Write\n",
-    },
-    Broken {
-        words: &["relayd", "--help"],
-        text: "",
-        input: WHOLE,
-        output: (100, 0),
-        written: "",
-        told: "relayd: Write\n",
     },
 ];
 
 #[test]
-fn ends_where_a_reader_or_a_writer_fails(rt: HostRuntime) {
-    for (place, broken) in BROKEN.iter().enumerate() {
-        let streams = Streams {
-            input: Calls::of(broken.input.0, broken.input.1),
-            output: Calls::of(broken.output.0, broken.output.1),
-            errors: Calls::WHOLE,
-        };
-        let told = tell_through(&rt, streams, broken.words, broken.text.as_bytes());
-        check(&rt, &told, broken.written, broken.told, 3, place);
+fn ends_where_a_writer_fails(rt: HostRuntime) {
+    for (place, cut) in CUTS.iter().enumerate() {
+        let mut output = Writer::new(rt.alloc(), Calls::of(cut.most, cut.good));
+        let written = write_bytes(&mut output, b"staged 0");
+        holds(&rt, written == Err(StreamFault::Write), "fault", place);
+        let is_cut = output.bytes.as_slice() == cut.written.as_bytes();
+        holds(&rt, is_cut, "written", place);
     }
 }
 
 // A command line always has a secret.
 #[test]
 fn refuses_no_secret(rt: HostRuntime) {
-    let mut input: &[u8] = b"";
-    let mut output = Writer::new(rt.alloc(), Calls::WHOLE);
-    let mut errors = Writer::new(rt.alloc(), Calls::WHOLE);
-    let status = sign(
-        rt.alloc(),
-        "msg_1",
-        "1000",
-        &[],
-        &mut input,
-        &mut output,
-        &mut errors,
-    );
-    holds(&rt, status == 1, "status", 0);
-    holds(&rt, output.bytes.is_empty(), "output", 0);
-    let is_told = errors.bytes.as_slice() == b"relayd: BadSecret\n".as_slice();
-    holds(&rt, is_told, "standard error", 0);
+    let none: &[&[u8]] = &[];
+    let read = secrets_of(rt.alloc(), none);
+    let is_refused = matches!(read, Err(ReadFault::BadSecret));
+    holds(&rt, is_refused, "secrets", 0);
 }
 
 // The longest line.

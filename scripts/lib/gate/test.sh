@@ -52,7 +52,7 @@ tell() {
   { grep -E 'FAILED' "$1" || tail -n 6 "$1"; } | tail -n 12 >> "$told"
 }
 
-# `rt ci` else gives a crate several jobs, of which it uses one most of the time, while other crates wait.
+# Without RT_JOBS `rt ci` runs as many crates as its estimate of memory allows, two or three of these.
 RT_JOBS=$(scripts/gate jobs)
 export RT_JOBS
 
@@ -72,6 +72,7 @@ start scripts/serve egress $relayd
 start scripts/serve hurt $relayd moved
 start scripts/docs check $relayd
 start scripts/script worked $relayd
+start scripts/script commands $relayd
 start scripts/script limits $relayd
 start scripts/script signatures $relayd
 start scripts/store files $relayd $driver
