@@ -10,9 +10,9 @@ use Rattle.std.proofs.lemmas.List.Folds.{Any-from_list_any, list_any_at}
 use Rattle.std.proofs.lemmas.List.Quantifiers.{position-Some}
 use Rattle.std.proofs.lemmas.List.Sums.{fails_before_first}
 use Rattle.claim_queue.specs.declared.pairs.Pair.{Pair}
-use Rattle.claim_queue.specs.declared.pairs.Turn.{Turn}
+use Rattle.claim_queue.specs.declared.pairs.QueueKey.{QueueKey}
 use Rattle.claim_queue.specs.Queues.{same_pair}
-use Rattle.claim_queue.specs.Lanes.{AreInOrder, comes_before, is_the, turn_of}
+use Rattle.claim_queue.specs.Lanes.{AreInOrder, comes_before, is_the, key_of}
 use Rattle.claim_queue.proofs.OrderLaws.{one_way, all_pairs_insert, taken_out}
 
 -- the same pair by its parts is the same pair
@@ -67,28 +67,28 @@ other_pair pairs pair k d unheld within =
 
 entered : (pairs : List Pair) (n : ℕ) (pair : Pair) → AreInOrder pairs → list_any (same_pair pair) pairs ≡ false
     → n ≤ length pairs
-    → IsPartitionPoint (λ held. comes_before (turn_of held) (turn_of pair) ≡ true)
-    (λ held. comes_before (turn_of held) (turn_of pair) ≡ false) pairs n → AreInOrder (insert pairs n pair)
+    → IsPartitionPoint (λ held. comes_before (key_of held) (key_of pair) ≡ true)
+    (λ held. comes_before (key_of held) (key_of pair) ≡ false) pairs n → AreInOrder (insert pairs n pair)
 entered pairs n pair order unheld le at =
-    all_pairs_insert (λ a b. (comes_before (turn_of b) (turn_of a) ≡ false) × (same_pair a b ≡ false)) pairs n pair le
+    all_pairs_insert (λ a b. (comes_before (key_of b) (key_of a) ≡ false) × (same_pair a b ≡ false)) pairs n pair le
     order
     (λ k d below. (
-      one_way (turn_of (slice_index_or pairs k d)) (turn_of pair) (at.0 k d (omega arith) below),
+      one_way (key_of (slice_index_or pairs k d)) (key_of pair) (at.0 k d (omega arith) below),
       same_both_ways (slice_index_or pairs k d) pair ∙ other_pair pairs pair k d unheld (omega (arith, below, le)),
     ))
     (λ k d from within. (at.1 k d from within, other_pair pairs pair k d unheld within))
 
-pub order_entered : (pairs all : List Pair) (n : ℕ) (pair : Pair) (turn : Turn) → all ≡ pairs → turn ≡ turn_of pair
+pub order_entered : (pairs all : List Pair) (n : ℕ) (pair : Pair) (key : QueueKey) → all ≡ pairs → key ≡ key_of pair
     → AreInOrder pairs → list_any (same_pair pair) pairs ≡ false → n ≤ length all
-    → IsPartitionPoint (λ held. comes_before (turn_of held) turn ≡ true)
-    (λ held. comes_before (turn_of held) turn ≡ false) all n → AreInOrder (insert pairs n pair)
-order_entered pairs all n pair turn same is order unheld le point =
+    → IsPartitionPoint (λ held. comes_before (key_of held) key ≡ true)
+    (λ held. comes_before (key_of held) key ≡ false) all n → AreInOrder (insert pairs n pair)
+order_entered pairs all n pair key same is order unheld le point =
     entered pairs n pair order unheld (subst (λ xs. n ≤ length xs) same le)
-    (subst (IsPoint (turn_of pair)) same (subst (λ t. IsPoint t all) is point))
+    (subst (IsPoint (key_of pair)) same (subst (λ t. IsPoint t all) is point))
   where
-    IsPoint : Turn → List Pair → Type 0
-    IsPoint t xs = IsPartitionPoint (λ held. comes_before (turn_of held) t ≡ true)
-        (λ held. comes_before (turn_of held) t ≡ false) xs n
+    IsPoint : QueueKey → List Pair → Type 0
+    IsPoint t xs = IsPartitionPoint (λ held. comes_before (key_of held) t ≡ true)
+        (λ held. comes_before (key_of held) t ≡ false) xs n
 
 -- One in the place of another
 

@@ -13,11 +13,11 @@ use Rattle.std.proofs.lemmas.List.Folds.{list_any_at}
 use Rattle.std.proofs.lemmas.List.Quantifiers.{position-Some}
 use Rattle.claim_queue.specs.declared.lanes.Lane.{Lane}
 use Rattle.claim_queue.specs.declared.pairs.Pair.{Pair}
-use Rattle.claim_queue.specs.declared.pairs.Turn.{Turn}
-use Rattle.claim_queue.specs.Queues.{mark_in, pair_of, same_pair}
-use Rattle.claim_queue.specs.Lanes.{AreApart, has_turn, is_of, is_turn_numbered, lane_in, names_of, pair_at, pairs_of}
-use Rattle.claim_queue.specs.Lanes.{same_turn, turn_of}
-use Rattle.claim_queue.proofs.TurnLaws.{none_numbered, none_of_number}
+use Rattle.claim_queue.specs.declared.pairs.QueueKey.{QueueKey}
+use Rattle.claim_queue.specs.Queues.{lane_state_in, pair_of, same_pair}
+use Rattle.claim_queue.specs.Lanes.{AreApart, has_key, is_of, is_key_numbered, lane_in, names_of, pair_at, pairs_of}
+use Rattle.claim_queue.specs.Lanes.{same_key, key_of}
+use Rattle.claim_queue.proofs.KeyLaws.{none_numbered, none_of_number}
 
 -- An endpoint's lane
 
@@ -28,7 +28,7 @@ placed p xs i at = grind (arith, ltb-true)
 
 pub lane_at : (lanes : List Lane) (endpoint : List ℕ) (i : ℕ) (held : Lane) → Some i ≡ position (is_of endpoint) lanes
     → held ≡ slice_index_or lanes i held
-    → (lane_in lanes endpoint ≡ Some held) × (i < length lanes) × (held.mark.endpoint ≡ endpoint)
+    → (lane_in lanes endpoint ≡ Some held) × (i < length lanes) × (held.state.endpoint ≡ endpoint)
 lane_at lanes endpoint i held at is = grind (arith, placed, position-Some, find_at, slice_get-get_or, bytes_decides)
 
 pub none_at : (lanes : List Lane) (endpoint : List ℕ) → None ≡ position (is_of endpoint) lanes
@@ -37,14 +37,14 @@ none_at lanes endpoint at = grind (arith, slice_get_cases, ltb-false, find_at)
 
 -- the lane that is found is the endpoint's
 pub lane_named : (lanes : List Lane) (endpoint : List ℕ) (lane : Lane) → lane_in lanes endpoint ≡ Some lane
-    → lane.mark.endpoint ≡ endpoint
+    → lane.state.endpoint ≡ endpoint
 lane_named [] endpoint lane e = absurd (let no = e in cc)
 lane_named (l ∷ ls) endpoint lane e = grind (arith, bytes_decides, lane_named ls endpoint lane)
 
 -- the lane at an endpoint's place is replaced by another one of this endpoint
 pub set_at : (lanes : List Lane) (endpoint : List ℕ) (i : ℕ) (held new : Lane)
     → Some i ≡ position (is_of endpoint) lanes → held ≡ slice_index_or lanes i held
-    → new.mark.endpoint ≡ held.mark.endpoint
+    → new.state.endpoint ≡ held.state.endpoint
     → (other : List ℕ) → lane_in (slice_set lanes i new) other
     ≡ (if bytes_eq endpoint other then Some new else lane_in lanes other)
 set_at lanes endpoint i held new at is keeps other =
@@ -53,22 +53,23 @@ set_at lanes endpoint i held new at is keeps other =
       lane_at lanes endpoint i held at is,
       bytes_decides endpoint other,
       placed (is_of endpoint) lanes i at,
-      bytes_decides new.mark.endpoint endpoint,
+      bytes_decides new.state.endpoint endpoint,
       find-set,
       find_past,
     )
 
 -- one more lane, of an endpoint that has none
-pub added : (lanes : List Lane) (new : Lane) → lane_in lanes new.mark.endpoint ≡ None
+pub added : (lanes : List Lane) (new : Lane) → lane_in lanes new.state.endpoint ≡ None
     → (other : List ℕ) → lane_in (lanes ++ new ∷ []) other
-    ≡ (if bytes_eq new.mark.endpoint other then Some new else lane_in lanes other)
+    ≡ (if bytes_eq new.state.endpoint other then Some new else lane_in lanes other)
 added lanes new none other = grind (arith, find-append, bytes_decides)
 
--- the mark of an endpoint is its lane's
-pub marked : (lanes : List Lane) (endpoint : List ℕ) → mark_in (map (λ lane. lane.mark) lanes) endpoint ≡ option_map
-    (λ lane. lane.mark) (lane_in lanes endpoint)
-marked [] endpoint = refl
-marked (l ∷ ls) endpoint = grind (arith, marked ls endpoint)
+-- the state of an endpoint is its lane's
+pub state_is : (lanes : List Lane) (endpoint : List ℕ) → lane_state_in (map (λ lane. lane.state) lanes) endpoint
+    ≡ option_map
+    (λ lane. lane.state) (lane_in lanes endpoint)
+state_is [] endpoint = refl
+state_is (l ∷ ls) endpoint = grind (arith, state_is ls endpoint)
 
 -- what does not tell the new lane from the old one
 pub kept_map : {X : Type 0} (f : Lane → X) (lanes : List Lane) (i : ℕ) (held new : Lane)
@@ -114,55 +115,55 @@ apart_push (n ∷ ns) name h none =
       apart_push ns name h.1 parts.1,
     )
 
-pub apart_added : (lanes : List Lane) (new : Lane) → AreApart (names_of lanes) → lane_in lanes new.mark.endpoint ≡ None
+pub apart_added : (lanes : List Lane) (new : Lane) → AreApart (names_of lanes) → lane_in lanes new.state.endpoint ≡ None
     → AreApart (names_of (lanes ++ new ∷ []))
 apart_added lanes new h none =
-    subst AreApart (sym (map-append (λ lane. lane.mark.endpoint) lanes (new ∷ [])))
-    (apart_push (names_of lanes) new.mark.endpoint h (unnamed lanes new.mark.endpoint none))
+    subst AreApart (sym (map-append (λ lane. lane.state.endpoint) lanes (new ∷ [])))
+    (apart_push (names_of lanes) new.state.endpoint h (unnamed lanes new.state.endpoint none))
 
 -- What is held
 
-own_pairs : (endpoint : List ℕ) (turns : List Turn) (pair : Pair)
-    → list_any (same_pair pair) (map (pair_at endpoint) turns)
-    ≡ (list_any (same_turn (turn_of pair)) turns && bytes_eq endpoint pair.endpoint)
+own_pairs : (endpoint : List ℕ) (keys : List QueueKey) (pair : Pair)
+    → list_any (same_pair pair) (map (pair_at endpoint) keys)
+    ≡ (list_any (same_key (key_of pair)) keys && bytes_eq endpoint pair.endpoint)
 own_pairs endpoint [] pair = refl
 own_pairs endpoint (t ∷ ts) pair = grind (arith, own_pairs endpoint ts pair)
 
 -- what is held of an endpoint is what its lane holds
 pub held_is : (lanes : List Lane) → AreApart (names_of lanes) → (pair : Pair)
-    → list_any (same_pair pair) (flat_map pairs_of lanes) ≡ option_map_or (λ lane. has_turn lane (turn_of pair))
+    → list_any (same_pair pair) (flat_map pairs_of lanes) ≡ option_map_or (λ lane. has_key lane (key_of pair))
     (lane_in lanes pair.endpoint) false
 held_is [] h pair = refl
 held_is (l ∷ ls) h pair = grind (arith, list_any-append, own_pairs, bytes_decides, none_named, held_is ls h.1 pair)
 
 -- Numbers that are held
 
-pub is_new : (lanes : List Lane) (seq : ℕ) → list_any (λ lane. list_any (is_turn_numbered seq) lane.turns.items) lanes
+pub is_new : (lanes : List Lane) (seq : ℕ) → list_any (λ lane. list_any (is_key_numbered seq) lane.keys.items) lanes
     ≡ false
     → (endpoint : List ℕ) (due : ℕ) → list_any (same_pair (pair_of endpoint due seq)) (flat_map pairs_of lanes) ≡ false
 is_new [] seq h endpoint due = refl
 is_new (l ∷ ls) seq h endpoint due =
-    let parts = or_parts (list_any (is_turn_numbered seq) l.turns.items)
-    (list_any (λ lane. list_any (is_turn_numbered seq) lane.turns.items) ls) h in
+    let parts = or_parts (list_any (is_key_numbered seq) l.keys.items)
+    (list_any (λ lane. list_any (is_key_numbered seq) lane.keys.items) ls) h in
     let pair = pair_of endpoint due seq in
     list_any-append (same_pair pair) (pairs_of l) (flat_map pairs_of ls)
     ∙ or_from (list_any (same_pair pair) (pairs_of l)) (list_any (same_pair pair) (flat_map pairs_of ls))
-    (own_pairs l.mark.endpoint l.turns.items pair ∙ and_left (has_turn l (turn_of pair))
-    (bytes_eq l.mark.endpoint endpoint) (none_numbered l.turns.items seq due parts.0))
+    (own_pairs l.state.endpoint l.keys.items pair ∙ and_left (has_key l (key_of pair))
+    (bytes_eq l.state.endpoint endpoint) (none_numbered l.keys.items seq due parts.0))
     (is_new ls seq parts.1 endpoint due)
 
 pub none_has : (lanes : List Lane) (seq : ℕ)
     → ((endpoint : List ℕ) (due : ℕ) → list_any (same_pair (pair_of endpoint due seq)) (flat_map pairs_of lanes)
     ≡ false)
-    → list_any (λ lane. list_any (is_turn_numbered seq) lane.turns.items) lanes ≡ false
+    → list_any (λ lane. list_any (is_key_numbered seq) lane.keys.items) lanes ≡ false
 none_has [] seq h = refl
 none_has (l ∷ ls) seq h =
-    or_from (list_any (is_turn_numbered seq) l.turns.items)
-    (list_any (λ lane. list_any (is_turn_numbered seq) lane.turns.items) ls)
-    (none_of_number l.turns.items seq (λ due. own (has_turn l (record { due = due; seq = seq }))
-    (sym (own_pairs l.mark.endpoint l.turns.items (pair_of l.mark.endpoint due seq)
-    ∙ ap (λ b. has_turn l (record { due = due; seq = seq }) && b)
-    ((bytes_decides l.mark.endpoint l.mark.endpoint).1 refl)) ∙ (parts l.mark.endpoint due).0)))
+    or_from (list_any (is_key_numbered seq) l.keys.items)
+    (list_any (λ lane. list_any (is_key_numbered seq) lane.keys.items) ls)
+    (none_of_number l.keys.items seq (λ due. own (has_key l (record { due = due; seq = seq }))
+    (sym (own_pairs l.state.endpoint l.keys.items (pair_of l.state.endpoint due seq)
+    ∙ ap (λ b. has_key l (record { due = due; seq = seq }) && b)
+    ((bytes_decides l.state.endpoint l.state.endpoint).1 refl)) ∙ (parts l.state.endpoint due).0)))
     (none_has ls seq (λ endpoint due. (parts endpoint due).1))
   where
     parts : (endpoint : List ℕ) (due : ℕ) → (list_any (same_pair (pair_of endpoint due seq)) (pairs_of l) ≡ false)
@@ -179,7 +180,7 @@ none_has (l ∷ ls) seq h =
 
 -- a lane has no delivery of a number that none has
 pub none_in : (lanes : List Lane) (i : ℕ) (held : Lane) (seq : ℕ)
-    → list_any (λ lane. list_any (is_turn_numbered seq) lane.turns.items) lanes ≡ false
+    → list_any (λ lane. list_any (is_key_numbered seq) lane.keys.items) lanes ≡ false
     → held ≡ slice_index_or lanes i held → i < length lanes
-    → list_any (is_turn_numbered seq) held.turns.items ≡ false
+    → list_any (is_key_numbered seq) held.keys.items ≡ false
 none_in lanes i held seq none is within = grind (arith, false_from_ne_true, both_ways, list_any_at)

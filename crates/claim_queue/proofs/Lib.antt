@@ -2,4 +2,4 @@ pub mod FirstLaws
 pub mod LaneLaws
 pub mod OrderLaws
 pub mod QueueLaws
-pub mod TurnLaws
+pub mod KeyLaws

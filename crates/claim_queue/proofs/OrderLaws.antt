@@ -1,4 +1,4 @@
--- Turns in order: what a search among them finds, and what stays in order.
+-- Keys in order: what a search among them finds, and what stays in order.
 use Rattle.std.proofs.Common.{◌≡◌, ℕ, ◌+◌, ◌-◌, ◌<◌, ◌≤◌, ◌⊎◌, inl, inr, Bool, true, false, not, ◌&&◌, ◌||◌, List, ◌∷◌}
 use Rattle.std.proofs.Common.{length, refl, sym, ◌∙◌, ap, subst, arith, slice_index_or}
 use Rattle.std.specs.List.{AllPairs, insert, list_any, remove}
@@ -10,55 +10,55 @@ use Rattle.std.proofs.lemmas.List.Edits.{get_or-insert_below, get_or-insert_at, 
 use Rattle.std.proofs.lemmas.List.Edits.{get_or-remove_below, get_or-remove_above, length-insert, length-remove}
 use Rattle.std.proofs.lemmas.List.Folds.{list_any_none}
 use Rattle.std.proofs.lemmas.List.Sorted.{IsPermutation-remove, list_any-IsPermutation}
-use Rattle.claim_queue.specs.declared.pairs.Turn.{Turn}
+use Rattle.claim_queue.specs.declared.pairs.QueueKey.{QueueKey}
 use Rattle.claim_queue.specs.Lanes.{comes_before}
 
--- The order of turns, in numbers
+-- The order of keys, in numbers
 
-pub record IsBefore (a b : Turn) : Type 0 where
+pub record IsBefore (a b : QueueKey) : Type 0 where
   pub due : a.due ≤ b.due
   pub tie : a.due ≡ b.due → a.seq < b.seq
 
-pub before : (a b : Turn) → comes_before a b ≡ true → IsBefore a b
+pub before : (a b : QueueKey) → comes_before a b ≡ true → IsBefore a b
 before a b h = grind (arith, or_cases, ltb-true, and_parts, eqb-true)
 
-pub from_before : (a b : Turn) → IsBefore a b → comes_before a b ≡ true
+pub from_before : (a b : QueueKey) → IsBefore a b → comes_before a b ≡ true
 from_before a b h = grind (arith, or_left, lt-ltb, or_right, and_from, eq-eqb)
 
-pub record IsNotBefore (a b : Turn) : Type 0 where
+pub record IsNotBefore (a b : QueueKey) : Type 0 where
   pub due : b.due ≤ a.due
   pub tie : a.due ≡ b.due → b.seq ≤ a.seq
 
-pub not_before : (a b : Turn) → comes_before a b ≡ false → IsNotBefore a b
+pub not_before : (a b : QueueKey) → comes_before a b ≡ false → IsNotBefore a b
 not_before a b h = grind (arith, both_ways, from_before)
 
-pub from_not_before : (a b : Turn) → IsNotBefore a b → comes_before a b ≡ false
+pub from_not_before : (a b : QueueKey) → IsNotBefore a b → comes_before a b ≡ false
 from_not_before a b h = grind (arith, before)
 
 -- the one that comes before does not come after
-pub one_way : (a b : Turn) → comes_before a b ≡ true → comes_before b a ≡ false
+pub one_way : (a b : QueueKey) → comes_before a b ≡ true → comes_before b a ≡ false
 one_way a b h =
     let first = before a b h
     in from_not_before b a (record { due = first.due; tie = λ same. omega (arith, first.tie (sym same)) })
 
 -- b does not come before a, and comes before c
-pub before_as_well : (a b c : Turn) → comes_before b a ≡ false → comes_before b c ≡ true → comes_before a c ≡ true
+pub before_as_well : (a b c : QueueKey) → comes_before b a ≡ false → comes_before b c ≡ true → comes_before a c ≡ true
 before_as_well a b c h g = grind (arith, not_before, before, from_before)
 
 -- a does not come before b, and has another number
-pub behind : (a b : Turn) → comes_before a b ≡ false → (a.seq ≡ b.seq → ⊥) → comes_before b a ≡ true
+pub behind : (a b : QueueKey) → comes_before a b ≡ false → (a.seq ≡ b.seq → ⊥) → comes_before b a ≡ true
 behind a b h other = grind (arith, not_before, from_before, cases_order)
 
--- where none comes before one that stands before it, those that come before a turn stand first
-pub partitioned : {X : Type 0} (key : X → Turn) (xs : List X) (turn : Turn)
-    → AllPairs (λ a b. comes_before (key b) (key a) ≡ false) xs → IsPartitionedBy (λ x. comes_before (key x) turn) xs
-partitioned {X} key xs turn order i j d le within is = pick (cases_lt i j)
+-- where none comes before one that stands before it, those that come before a key stand first
+pub partitioned : {X : Type 0} (by : X → QueueKey) (xs : List X) (key : QueueKey)
+    → AllPairs (λ a b. comes_before (by b) (by a) ≡ false) xs → IsPartitionedBy (λ x. comes_before (by x) key) xs
+partitioned {X} by xs key order i j d le within is = pick (cases_lt i j)
   where
-    pick : (i < j) ⊎ (j ≤ i) → comes_before (key (slice_index_or xs i d)) turn ≡ true
-    pick (inl less) = before_as_well (key (slice_index_or xs i d)) (key (slice_index_or xs j d)) turn
+    pick : (i < j) ⊎ (j ≤ i) → comes_before (by (slice_index_or xs i d)) key ≡ true
+    pick (inl less) = before_as_well (by (slice_index_or xs i d)) (by (slice_index_or xs j d)) key
         (order i j d less within) is
     pick (inr more) = let same : j ≡ i = omega (arith, le, more)
-        in subst (λ k. comes_before (key (slice_index_or xs k d)) turn ≡ true) same is
+        in subst (λ k. comes_before (by (slice_index_or xs k d)) key ≡ true) same is
 
 -- what is held once the only one of its kind was taken out
 pub taken_out : {X : Type 0} (same : X → X → Bool) (xs : List X) (n : ℕ) (x other : X)

@@ -12,50 +12,50 @@ use Rattle.std.proofs.lemmas.Option.{get_or_from_slice_get, none-some, same_Some
 use Rattle.std.proofs.lemmas.List.Folds.{Any-from_list_any, list_any_at}
 use Rattle.std.proofs.lemmas.List.Sums.{sum_by-le, sum_by-set, sum_by_push}
 use Rattle.claim_queue.specs.declared.lanes.Lane.{Lane}
-use Rattle.claim_queue.specs.declared.marks.Mark.{Mark}
+use Rattle.claim_queue.specs.declared.lane_state.LaneState.{LaneState}
 use Rattle.claim_queue.specs.declared.pairs.Pair.{Pair}
-use Rattle.claim_queue.specs.declared.pairs.Turn.{Turn}
+use Rattle.claim_queue.specs.declared.pairs.QueueKey.{QueueKey}
 use Rattle.claim_queue.specs.Queues.{IsNext, IsNoLater, NothingIsReady, Sets, free_in, has_room_in, is_held, is_ready}
-use Rattle.claim_queue.specs.Queues.{is_ready_by, mark_for, mark_in, pair_of, same_pair}
+use Rattle.claim_queue.specs.Queues.{is_ready_by, lane_state_for, lane_state_in, pair_of, same_pair}
 use Rattle.claim_queue.specs.Lanes.{AreApart, AreInOrder, IsInOrder, IsQueue, IsSound, Renews, absent, comes_before}
-use Rattle.claim_queue.specs.Lanes.{first_of, has_turn, is_of, is_the, lane_in, names_of, pair_at, pairs_of, queue_of}
-use Rattle.claim_queue.specs.Lanes.{same_turn, turn_of}
+use Rattle.claim_queue.specs.Lanes.{first_of, has_key, is_of, is_the, lane_in, names_of, pair_at, pairs_of, queue_of}
+use Rattle.claim_queue.specs.Lanes.{same_key, key_of}
 use Rattle.claim_queue.proofs.OrderLaws.{IsNotBefore, from_not_before, not_before, one_way}
-use Rattle.claim_queue.proofs.TurnLaws.{is_same_turn, same_turn_itself}
+use Rattle.claim_queue.proofs.KeyLaws.{is_same_key, same_key_itself}
 use Rattle.claim_queue.proofs.FirstLaws.{is_same, same_itself, stays}
-use Rattle.claim_queue.proofs.LaneLaws.{apart_added, added, held_is, kept_flat, kept_map, lane_at, lane_named, marked}
+use Rattle.claim_queue.proofs.LaneLaws.{apart_added, added, held_is, kept_flat, kept_map, lane_at, lane_named, state_is}
 use Rattle.claim_queue.proofs.LaneLaws.{set_at}
 
 -- The first pair of a lane
 
--- it is of the lane's endpoint, which has room, and its turn is the first
-pub the_first : (lane : Lane) (pair : Pair) → is_the (first_of lane) pair ≡ true → (lane.mark.endpoint ≡ pair.endpoint)
-    × (lane.mark.room ≡ true) × (slice_get lane.turns.items 0 ≡ Some (turn_of pair))
-the_first lane pair h = pick lane.mark.room (slice_get lane.turns.items 0) refl refl h
+-- it is of the lane's endpoint, which has room, and its key is the first
+pub the_first : (lane : Lane) (pair : Pair) → is_the (first_of lane) pair ≡ true → (lane.state.endpoint ≡ pair.endpoint)
+    × (lane.state.room ≡ true) × (slice_get lane.keys.items 0 ≡ Some (key_of pair))
+the_first lane pair h = pick lane.state.room (slice_get lane.keys.items 0) refl refl h
   where
-    pick : (room : Bool) (turn : Option Turn) → lane.mark.room ≡ room → slice_get lane.turns.items 0 ≡ turn
-        → is_the (if room then option_map (pair_at lane.mark.endpoint) turn else None) pair ≡ true
-        → (lane.mark.endpoint ≡ pair.endpoint) × (lane.mark.room ≡ true)
-        × (slice_get lane.turns.items 0 ≡ Some (turn_of pair))
-    pick true (Some turn) e f is =
-        let same : pair_at lane.mark.endpoint turn ≡ pair = is_same pair (pair_at lane.mark.endpoint turn) is in
-        (ap (λ (p : Pair). p.endpoint) same, e, f ∙ ap (λ p. Some (turn_of p)) same)
+    pick : (room : Bool) (key : Option QueueKey) → lane.state.room ≡ room → slice_get lane.keys.items 0 ≡ key
+        → is_the (if room then option_map (pair_at lane.state.endpoint) key else None) pair ≡ true
+        → (lane.state.endpoint ≡ pair.endpoint) × (lane.state.room ≡ true)
+        × (slice_get lane.keys.items 0 ≡ Some (key_of pair))
+    pick true (Some key) e f is =
+        let same : pair_at lane.state.endpoint key ≡ pair = is_same pair (pair_at lane.state.endpoint key) is in
+        (ap (λ (p : Pair). p.endpoint) same, e, f ∙ ap (λ p. Some (key_of p)) same)
     pick true None e f is = absurd (let no = is in cc)
-    pick false turn e f is = absurd (let no = is in cc)
+    pick false key e f is = absurd (let no = is in cc)
 
-pub is_its_first : (lane : Lane) (turn : Turn) → lane.mark.room ≡ true → slice_get lane.turns.items 0 ≡ Some turn
-    → is_the (first_of lane) (pair_at lane.mark.endpoint turn) ≡ true
-is_its_first lane turn room first =
-    ap (λ b. is_the (if b then option_map (pair_at lane.mark.endpoint) (slice_get lane.turns.items 0) else None)
-    (pair_at lane.mark.endpoint turn)) room
-    ∙ ap (λ o. is_the (option_map (pair_at lane.mark.endpoint) o) (pair_at lane.mark.endpoint turn)) first
-    ∙ same_itself (pair_at lane.mark.endpoint turn)
+pub is_its_first : (lane : Lane) (key : QueueKey) → lane.state.room ≡ true → slice_get lane.keys.items 0 ≡ Some key
+    → is_the (first_of lane) (pair_at lane.state.endpoint key) ≡ true
+is_its_first lane key room first =
+    ap (λ b. is_the (if b then option_map (pair_at lane.state.endpoint) (slice_get lane.keys.items 0) else None)
+    (pair_at lane.state.endpoint key)) room
+    ∙ ap (λ o. is_the (option_map (pair_at lane.state.endpoint) o) (pair_at lane.state.endpoint key)) first
+    ∙ same_itself (pair_at lane.state.endpoint key)
 
-other_lane : (lane : Lane) (pair : Pair) → bytes_eq lane.mark.endpoint pair.endpoint ≡ false
+other_lane : (lane : Lane) (pair : Pair) → bytes_eq lane.state.endpoint pair.endpoint ≡ false
     → is_the (first_of lane) pair ≡ false
 other_lane lane pair differs = false_from_ne_true (is_the (first_of lane) pair) (λ is.
-    both_ways (bytes_eq lane.mark.endpoint pair.endpoint) differs
-    ((bytes_decides lane.mark.endpoint pair.endpoint).1 (the_first lane pair is).0))
+    both_ways (bytes_eq lane.state.endpoint pair.endpoint) differs
+    ((bytes_decides lane.state.endpoint pair.endpoint).1 (the_first lane pair is).0))
 
 -- the first pair of a lane is among the first ones
 pub is_among : (lanes : List Lane) (firsts : List Pair) (len capacity : ℕ) (endpoint : List ℕ) (lane : Lane)
@@ -76,7 +76,7 @@ first_held lanes firsts len capacity endpoint lane q at (Some pair) is =
 -- of the pairs of an endpoint none but its lane's first one is among the first ones
 pub own_held : (lanes : List Lane) (firsts : List Pair) (len capacity : ℕ) (endpoint : List ℕ) (lane new : Lane)
     → IsQueue lanes firsts len capacity → lane_in lanes endpoint ≡ Some lane
-    → new.mark.endpoint ≡ lane.mark.endpoint → (before after : Option Pair) → before ≡ first_of lane
+    → new.state.endpoint ≡ lane.state.endpoint → (before after : Option Pair) → before ≡ first_of lane
     → after ≡ first_of new → IfSome after (λ pair. list_any (same_pair pair) firsts ≡ is_the before pair)
 own_held lanes firsts len capacity endpoint lane new q at keeps before None b a = tt
 own_held lanes firsts len capacity endpoint lane new q at keeps before (Some pair) b a =
@@ -90,21 +90,21 @@ own_held lanes firsts len capacity endpoint lane new q at keeps before (Some pai
 changed : (lanes : List Lane) (firsts : List Pair) (len capacity : ℕ) (endpoint : List ℕ) (i : ℕ) (held new : Lane)
     (firsts' : List Pair) (len' capacity' : ℕ)
     → IsQueue lanes firsts len capacity → Some i ≡ position (is_of endpoint) lanes → held ≡ slice_index_or lanes i held
-    → new.mark.endpoint ≡ held.mark.endpoint → IsSound new
+    → new.state.endpoint ≡ held.state.endpoint → IsSound new
     → AreInOrder firsts' → Renews (first_of held) (first_of new) firsts firsts'
     → len' + absent (first_of new) ≤ len + absent (first_of held) → capacity' ≡ capacity
     → IsQueue (slice_set lanes i new) firsts' len' capacity'
 changed lanes firsts len capacity endpoint i held new firsts' len' capacity' q at is keeps sound order renewed within
     same = record {
       sound = λ name lane found. now_sound name lane (bytes_eq endpoint name) (sym (sets name) ∙ found);
-      apart = subst AreApart (sym (kept_map (λ lane. lane.mark.endpoint) lanes i held new is own.1 keeps)) q.apart;
+      apart = subst AreApart (sym (kept_map (λ lane. lane.state.endpoint) lanes i held new is own.1 keeps)) q.apart;
       firsts = λ pair. renewed pair ∙ now_first pair (bytes_eq endpoint pair.endpoint) refl
           ∙ sym (ap (λ o. option_map_or (λ l. is_the (first_of l) pair) o false) (sets pair.endpoint));
       order = order;
       within = omega (arith, within, same, q.within, total);
     }
   where
-    own : (lane_in lanes endpoint ≡ Some held) × (i < length lanes) × (held.mark.endpoint ≡ endpoint)
+    own : (lane_in lanes endpoint ≡ Some held) × (i < length lanes) × (held.state.endpoint ≡ endpoint)
     own = lane_at lanes endpoint i held at is
 
     sets : (other : List ℕ)
@@ -149,7 +149,7 @@ changed lanes firsts len capacity endpoint i held new firsts' len' capacity' q a
 pub renewed : (lanes : List Lane) (firsts : List Pair) (len capacity : ℕ) (endpoint : List ℕ) (i : ℕ) (held new : Lane)
     (firsts' : List Pair) (len' capacity' : ℕ) (before after : Option Pair)
     → IsQueue lanes firsts len capacity → Some i ≡ position (is_of endpoint) lanes → held ≡ slice_index_or lanes i held
-    → new.mark.endpoint ≡ held.mark.endpoint → IsSound new
+    → new.state.endpoint ≡ held.state.endpoint → IsSound new
     → before ≡ first_of held → after ≡ first_of new
     → AreInOrder firsts' → Renews before after firsts firsts' → len' + absent after ≤ len + absent before
     → capacity' ≡ capacity
@@ -165,9 +165,9 @@ renewed lanes firsts len capacity endpoint i held new firsts' len' capacity' bef
 pub kept : (lanes : List Lane) (firsts : List Pair) (len capacity : ℕ) (endpoint : List ℕ) (i : ℕ) (held new : Lane)
     → IsQueue lanes firsts len capacity → Some i ≡ position (is_of endpoint) lanes → held ≡ slice_index_or lanes i held
     → IsSound new
-    → new.mark.endpoint ≡ held.mark.endpoint → new.mark.room ≡ held.mark.room → new.turns.items ≡ held.turns.items
+    → new.state.endpoint ≡ held.state.endpoint → new.state.room ≡ held.state.room → new.keys.items ≡ held.keys.items
     → IsQueue (slice_set lanes i new) firsts len capacity
-kept lanes firsts len capacity endpoint i held new q at is sound name room turns =
+kept lanes firsts len capacity endpoint i held new q at is sound name room keys =
     renewed lanes firsts len capacity endpoint i held new firsts len capacity (first_of held)
     (first_of held) q at is name sound refl same q.order
     (λ other. stays firsts (first_of held) other
@@ -175,18 +175,18 @@ kept lanes firsts len capacity endpoint i held new q at is sound name room turns
     (omega arith) refl
   where
     same : first_of held ≡ first_of new
-    same = sym (λ j. if room j then option_map (pair_at (name j)) (slice_get (turns j) 0) else None)
+    same = sym (λ j. if room j then option_map (pair_at (name j)) (slice_get (keys j) 0) else None)
 
 -- a lane is added, of an endpoint that had none and has no room
 pub more : (lanes : List Lane) (firsts : List Pair) (len capacity : ℕ) (new : Lane) (capacity' : ℕ)
-    → IsQueue lanes firsts len capacity → lane_in lanes new.mark.endpoint ≡ None → IsSound new → new.mark.room ≡ false
+    → IsQueue lanes firsts len capacity → lane_in lanes new.state.endpoint ≡ None → IsSound new → new.state.room ≡ false
     → len + (length lanes + 1) ≤ capacity'
     → IsQueue (lanes ++ new ∷ []) firsts len capacity'
 more lanes firsts len capacity new capacity' q none sound room fits = record {
-  sound = λ name lane found. now_sound name lane (bytes_eq new.mark.endpoint name) (sym (added lanes new none name)
+  sound = λ name lane found. now_sound name lane (bytes_eq new.state.endpoint name) (sym (added lanes new none name)
       ∙ found);
   apart = apart_added lanes new q.apart none;
-  firsts = λ pair. q.firsts pair ∙ now_first pair (bytes_eq new.mark.endpoint pair.endpoint) refl
+  firsts = λ pair. q.firsts pair ∙ now_first pair (bytes_eq new.state.endpoint pair.endpoint) refl
       ∙ sym (ap (λ o. option_map_or (λ l. is_the (first_of l) pair) o false) (added lanes new none pair.endpoint));
   order = q.order;
   within = omega (
@@ -203,42 +203,43 @@ more lanes firsts len capacity new capacity' q none sound room fits = record {
     at_most (Some pair) = omega arith
 
     nothing : first_of new ≡ None
-    nothing = ap (λ b. if b then option_map (pair_at new.mark.endpoint) (slice_get new.turns.items 0) else None) room
+    nothing = ap (λ b. if b then option_map (pair_at new.state.endpoint) (slice_get new.keys.items 0) else None) room
 
     now_sound : (name : List ℕ) (lane : Lane) (b : Bool) → (if b then Some new else lane_in lanes name) ≡ Some lane
         → IsSound lane
     now_sound name lane true e = subst IsSound (let this : new ≡ lane = cc in this) sound
     now_sound name lane false e = q.sound name lane e
 
-    now_first : (pair : Pair) (b : Bool) → bytes_eq new.mark.endpoint pair.endpoint ≡ b
+    now_first : (pair : Pair) (b : Bool) → bytes_eq new.state.endpoint pair.endpoint ≡ b
         → option_map_or (λ l. is_the (first_of l) pair) (lane_in lanes pair.endpoint) false ≡ option_map_or
         (λ l. is_the (first_of l) pair) (if b then Some new else lane_in lanes pair.endpoint) false
     now_first pair true e =
         ap (λ o. option_map_or (λ l. is_the (first_of l) pair) o false)
-        (ap (lane_in lanes) (sym ((bytes_decides new.mark.endpoint pair.endpoint).0 e)) ∙ none)
+        (ap (lane_in lanes) (sym ((bytes_decides new.state.endpoint pair.endpoint).0 e)) ∙ none)
         ∙ sym (ap (λ o. is_the o pair) nothing)
     now_first pair false e = refl
 
 -- which pairs are held then: `op` tells it of the lane
-pub now_held : (lanes : List Lane) (endpoint : List ℕ) (i : ℕ) (held new : Lane) (turn : Turn) (op : Bool → Bool → Bool)
+pub now_held : (lanes : List Lane) (endpoint : List ℕ) (i : ℕ) (held new : Lane) (key : QueueKey) (op : Bool → Bool
+    → Bool)
     → AreApart (names_of lanes) → Some i ≡ position (is_of endpoint) lanes → held ≡ slice_index_or lanes i held
-    → new.mark.endpoint ≡ held.mark.endpoint
+    → new.state.endpoint ≡ held.state.endpoint
     → ((a : Bool) → op a false ≡ a)
-    → ((other : Turn) → has_turn new other ≡ op (has_turn held other) (same_turn other turn))
+    → ((other : QueueKey) → has_key new other ≡ op (has_key held other) (same_key other key))
     → (pair : Pair) → is_held (queue_of (slice_set lanes i new)) pair ≡ op (is_held (queue_of lanes) pair)
-    (same_pair pair (pair_of endpoint turn.due turn.seq))
-now_held lanes endpoint i held new turn op apart at is keeps none turns pair =
+    (same_pair pair (pair_of endpoint key.due key.seq))
+now_held lanes endpoint i held new key op apart at is keeps none keys pair =
     held_is (slice_set lanes i new)
-    (subst AreApart (sym (kept_map (λ lane. lane.mark.endpoint) lanes i held new is own.1 keeps)) apart) pair
+    (subst AreApart (sym (kept_map (λ lane. lane.state.endpoint) lanes i held new is own.1 keeps)) apart) pair
     ∙ ap has (set_at lanes endpoint i held new at is keeps pair.endpoint)
     ∙ pick (bytes_eq endpoint pair.endpoint) refl
-    ∙ ap (λ b. op b (same_pair pair (pair_of endpoint turn.due turn.seq))) (sym (held_is lanes apart pair))
+    ∙ ap (λ b. op b (same_pair pair (pair_of endpoint key.due key.seq))) (sym (held_is lanes apart pair))
   where
-    own : (lane_in lanes endpoint ≡ Some held) × (i < length lanes) × (held.mark.endpoint ≡ endpoint)
+    own : (lane_in lanes endpoint ≡ Some held) × (i < length lanes) × (held.state.endpoint ≡ endpoint)
     own = lane_at lanes endpoint i held at is
 
     has : Option Lane → Bool
-    has o = option_map_or (λ lane. has_turn lane (turn_of pair)) o false
+    has o = option_map_or (λ lane. has_key lane (key_of pair)) o false
 
     with_name : (s d : Bool) → (s && d) ≡ (s && (d && true))
     with_name true true = refl
@@ -251,106 +252,107 @@ now_held lanes endpoint i held new turn op apart at is keeps none turns pair =
     without false d = refl
 
     pick : (b : Bool) → bytes_eq endpoint pair.endpoint ≡ b → has (if b then Some new else lane_in lanes pair.endpoint)
-        ≡ op (has (lane_in lanes pair.endpoint)) (same_pair pair (pair_of endpoint turn.due turn.seq))
+        ≡ op (has (lane_in lanes pair.endpoint)) (same_pair pair (pair_of endpoint key.due key.seq))
     pick true same =
-        turns (turn_of pair)
-        ∙ ap (λ o. op (has o) (same_turn (turn_of pair) turn))
+        keys (key_of pair)
+        ∙ ap (λ o. op (has o) (same_key (key_of pair) key))
         (sym (ap (lane_in lanes) (sym ((bytes_decides endpoint pair.endpoint).0 same)) ∙ own.0))
-        ∙ ap (op (has (lane_in lanes pair.endpoint))) (with_name (nat_eq turn.seq pair.seq) (nat_eq turn.due pair.due)
-        ∙ ap (λ b. nat_eq turn.seq pair.seq && (nat_eq turn.due pair.due && b)) (sym same))
+        ∙ ap (op (has (lane_in lanes pair.endpoint))) (with_name (nat_eq key.seq pair.seq) (nat_eq key.due pair.due)
+        ∙ ap (λ b. nat_eq key.seq pair.seq && (nat_eq key.due pair.due && b)) (sym same))
     pick false differs =
         sym (ap (op (has (lane_in lanes pair.endpoint)))
-        (ap (λ b. nat_eq turn.seq pair.seq && (nat_eq turn.due pair.due && b)) differs
-        ∙ without (nat_eq turn.seq pair.seq) (nat_eq turn.due pair.due)) ∙ none (has (lane_in lanes pair.endpoint)))
+        (ap (λ b. nat_eq key.seq pair.seq && (nat_eq key.due pair.due && b)) differs
+        ∙ without (nat_eq key.seq pair.seq) (nat_eq key.due pair.due)) ∙ none (has (lane_in lanes pair.endpoint)))
 
 -- what is kept of each endpoint then
-pub now_marked : (lanes : List Lane) (endpoint : List ℕ) (i : ℕ) (held new : Lane)
-    → Some i ≡ position (is_of endpoint) lanes → held ≡ slice_index_or lanes i held → new.mark.endpoint
-    ≡ held.mark.endpoint
-    → (other : List ℕ) → mark_in (map (λ lane. lane.mark) (slice_set lanes i new)) other
-    ≡ (if bytes_eq endpoint other then Some new.mark else mark_in (map (λ lane. lane.mark) lanes) other)
-now_marked lanes endpoint i held new at is keeps other = grind (
+pub state_now : (lanes : List Lane) (endpoint : List ℕ) (i : ℕ) (held new : Lane)
+    → Some i ≡ position (is_of endpoint) lanes → held ≡ slice_index_or lanes i held → new.state.endpoint
+    ≡ held.state.endpoint
+    → (other : List ℕ) → lane_state_in (map (λ lane. lane.state) (slice_set lanes i new)) other
+    ≡ (if bytes_eq endpoint other then Some new.state else lane_state_in (map (λ lane. lane.state) lanes) other)
+state_now lanes endpoint i held new at is keeps other = grind (
   arith,
-  marked (slice_set lanes i new) other,
+  state_is (slice_set lanes i new) other,
   set_at lanes endpoint i held new at is keeps other,
-  marked lanes
+  state_is lanes
       other,
 )
 
-pub mark_at : (lanes : List Lane) (endpoint : List ℕ) (lane : Lane) → lane_in lanes endpoint ≡ Some lane
-    → mark_in (map (λ lane. lane.mark) lanes) endpoint ≡ Some lane.mark
-mark_at lanes endpoint lane at = marked lanes endpoint ∙ ap (option_map (λ lane. lane.mark)) at
+pub state_at : (lanes : List Lane) (endpoint : List ℕ) (lane : Lane) → lane_in lanes endpoint ≡ Some lane
+    → lane_state_in (map (λ lane. lane.state) lanes) endpoint ≡ Some lane.state
+state_at lanes endpoint lane at = state_is lanes endpoint ∙ ap (option_map (λ lane. lane.state)) at
 
-pub mark_changed : (lanes : List Lane) (endpoint : List ℕ) (i : ℕ) (held new : Lane) (change : Mark → Mark)
+pub state_changed : (lanes : List Lane) (endpoint : List ℕ) (i : ℕ) (held new : Lane) (change : LaneState → LaneState)
     → Some i ≡ position (is_of endpoint) lanes → held ≡ slice_index_or lanes i held
-    → new.mark.endpoint ≡ held.mark.endpoint → new.mark ≡ change held.mark
-    → (other : List ℕ) → mark_in (map (λ lane. lane.mark) (slice_set lanes i new)) other
-    ≡ (if bytes_eq endpoint other then option_map change (mark_in (map (λ lane. lane.mark) lanes) other) else mark_in
-    (map (λ lane. lane.mark) lanes) other)
-mark_changed lanes endpoint i held new change at is keeps changes other =
+    → new.state.endpoint ≡ held.state.endpoint → new.state ≡ change held.state
+    → (other : List ℕ) → lane_state_in (map (λ lane. lane.state) (slice_set lanes i new)) other
+    ≡ (if bytes_eq endpoint other then option_map change (lane_state_in (map (λ lane. lane.state) lanes) other) else
+    lane_state_in
+    (map (λ lane. lane.state) lanes) other)
+state_changed lanes endpoint i held new change at is keeps changes other =
     grind (
       arith,
-      now_marked lanes endpoint i held new at is keeps other,
+      state_now lanes endpoint i held new at is keeps other,
       bytes_decides endpoint other,
       lane_at lanes endpoint i held at is,
-      mark_at,
+      state_at,
     )
 
 -- Which is next
 
--- of the turns of a lane none comes before the first
-none_earlier : (turns : List Turn) (turn : Turn) → IsInOrder turns → list_any (same_turn turn) turns ≡ true
-    → (first : Turn) × (slice_get turns 0 ≡ Some first) × (comes_before turn first ≡ false)
-none_earlier [] turn order h = absurd (let no = h in cc)
-none_earlier (t ∷ ts) turn order h = at (Any-from_list_any (same_turn turn) (t ∷ ts) h)
+-- of the keys of a lane none comes before the first
+none_earlier : (keys : List QueueKey) (key : QueueKey) → IsInOrder keys → list_any (same_key key) keys ≡ true
+    → (first : QueueKey) × (slice_get keys 0 ≡ Some first) × (comes_before key first ≡ false)
+none_earlier [] key order h = absurd (let no = h in cc)
+none_earlier (t ∷ ts) key order h = at (Any-from_list_any (same_key key) (t ∷ ts) h)
   where
-    itself : (a : Turn) → comes_before a a ≡ false
+    itself : (a : QueueKey) → comes_before a a ≡ false
     itself a = from_not_before a a (record { due = omega arith; tie = λ same. omega arith })
 
-    at : (k : ℕ) × (x : Turn) × (k < length (t ∷ ts)) × (slice_index_or (t ∷ ts) k x ≡ x) × (same_turn turn x ≡ true)
-        → (first : Turn) × (slice_get (t ∷ ts) 0 ≡ Some first) × (comes_before turn first ≡ false)
+    at : (k : ℕ) × (x : QueueKey) × (k < length (t ∷ ts)) × (slice_index_or (t ∷ ts) k x ≡ x) × (same_key key x ≡ true)
+        → (first : QueueKey) × (slice_get (t ∷ ts) 0 ≡ Some first) × (comes_before key first ≡ false)
     at (zero, x, within, is, same) =
-        (t, refl, subst (λ a. comes_before a t ≡ false) (is ∙ is_same_turn turn x same) (itself t))
+        (t, refl, subst (λ a. comes_before a t ≡ false) (is ∙ is_same_key key x same) (itself t))
     at (suc k, x, within, is, same) = (
       t,
       refl,
-      subst (λ a. comes_before a t ≡ false) (is ∙ is_same_turn turn x same)
+      subst (λ a. comes_before a t ≡ false) (is ∙ is_same_key key x same)
           (one_way t (slice_index_or (t ∷ ts) (suc k) x) (order 0 (suc k) x (omega arith) within)),
     )
 
 -- of the first pairs none comes before the first
 none_before : (pairs : List Pair) (pair : Pair) → AreInOrder pairs → list_any (same_pair pair) pairs ≡ true
-    → (first : Pair) × (slice_get pairs 0 ≡ Some first) × (comes_before (turn_of pair) (turn_of first) ≡ false)
+    → (first : Pair) × (slice_get pairs 0 ≡ Some first) × (comes_before (key_of pair) (key_of first) ≡ false)
 none_before [] pair order h = absurd (let no = h in cc)
 none_before (p ∷ ps) pair order h = at (Any-from_list_any (same_pair pair) (p ∷ ps) h)
   where
-    itself : (a : Turn) → comes_before a a ≡ false
+    itself : (a : QueueKey) → comes_before a a ≡ false
     itself a = from_not_before a a (record { due = omega arith; tie = λ same. omega arith })
 
     at : (k : ℕ) × (x : Pair) × (k < length (p ∷ ps)) × (slice_index_or (p ∷ ps) k x ≡ x) × (same_pair pair x ≡ true)
-        → (first : Pair) × (slice_get (p ∷ ps) 0 ≡ Some first) × (comes_before (turn_of pair) (turn_of first) ≡ false)
+        → (first : Pair) × (slice_get (p ∷ ps) 0 ≡ Some first) × (comes_before (key_of pair) (key_of first) ≡ false)
     at (zero, x, within, is, same) = (
       p,
       refl,
-      subst (λ a. comes_before (turn_of a) (turn_of p) ≡ false) (is ∙ is_same pair x same)
-          (itself (turn_of p)),
+      subst (λ a. comes_before (key_of a) (key_of p) ≡ false) (is ∙ is_same pair x same)
+          (itself (key_of p)),
     )
     at (suc k, x, within, is, same) = (
       p,
       refl,
-      subst (λ a. comes_before (turn_of a) (turn_of p) ≡ false) (is ∙ is_same pair x same)
+      subst (λ a. comes_before (key_of a) (key_of p) ≡ false) (is ∙ is_same pair x same)
           (order 0 (suc k) x (omega arith) within).0,
     )
 
--- a mark is found where its lane is
-lane_of_mark : (lanes : List Lane) (endpoint : List ℕ) → has_room_in (map (λ lane. lane.mark) lanes) endpoint ≡ true
-    → (lane : Lane) × (lane_in lanes endpoint ≡ Some lane) × (lane.mark.room ≡ true)
-lane_of_mark lanes endpoint h = pick (lane_in lanes endpoint) refl
-    (sym (ap (λ o. option_map_or (λ m. m.room) o false) (marked lanes endpoint)) ∙ h)
+-- a state is found where its lane is
+lane_of_state : (lanes : List Lane) (endpoint : List ℕ) → has_room_in (map (λ lane. lane.state) lanes) endpoint ≡ true
+    → (lane : Lane) × (lane_in lanes endpoint ≡ Some lane) × (lane.state.room ≡ true)
+lane_of_state lanes endpoint h = pick (lane_in lanes endpoint) refl
+    (sym (ap (λ o. option_map_or (λ m. m.room) o false) (state_is lanes endpoint)) ∙ h)
   where
     pick : (o : Option Lane) → lane_in lanes endpoint ≡ o
-        → option_map_or (λ m. m.room) (option_map (λ lane. lane.mark) o) false ≡ true → (lane : Lane)
-        × (lane_in lanes endpoint ≡ Some lane) × (lane.mark.room ≡ true)
+        → option_map_or (λ m. m.room) (option_map (λ lane. lane.state) o) false ≡ true → (lane : Lane)
+        × (lane_in lanes endpoint ≡ Some lane) × (lane.state.room ≡ true)
     pick None e f = absurd (let no = f in cc)
     pick (Some lane) e f = (lane, e, f)
 
@@ -359,44 +361,44 @@ pub ready_behind : (lanes : List Lane) (firsts : List Pair) (len capacity now : 
     → IsQueue lanes firsts len capacity → is_ready (queue_of lanes) now other ≡ true
     → (first : Pair) × (slice_get firsts 0 ≡ Some first) × IsNoLater first other
 ready_behind lanes firsts len capacity now other q ready =
-    at (lane_of_mark lanes other.endpoint
-    (and_parts (nat_le other.due now) (has_room_in (map (λ lane. lane.mark) lanes) other.endpoint) parts.1).1)
+    at (lane_of_state lanes other.endpoint
+    (and_parts (nat_le other.due now) (has_room_in (map (λ lane. lane.state) lanes) other.endpoint) parts.1).1)
   where
-    parts : (is_held (queue_of lanes) other ≡ true) × (is_ready_by (map (λ lane. lane.mark) lanes) now other ≡ true)
-    parts = and_parts (is_held (queue_of lanes) other) (is_ready_by (map (λ lane. lane.mark) lanes) now other) ready
+    parts : (is_held (queue_of lanes) other ≡ true) × (is_ready_by (map (λ lane. lane.state) lanes) now other ≡ true)
+    parts = and_parts (is_held (queue_of lanes) other) (is_ready_by (map (λ lane. lane.state) lanes) now other) ready
 
-    at : (lane : Lane) × (lane_in lanes other.endpoint ≡ Some lane) × (lane.mark.room ≡ true) → (first : Pair)
+    at : (lane : Lane) × (lane_in lanes other.endpoint ≡ Some lane) × (lane.state.room ≡ true) → (first : Pair)
         × (slice_get firsts 0 ≡ Some first) × IsNoLater first other
     at (lane, here, room) =
-        from (none_earlier lane.turns.items (turn_of other) (q.sound other.endpoint lane here).order
-        (sym (held_is lanes q.apart other ∙ ap (λ o. option_map_or (λ l. has_turn l (turn_of other)) o false) here)
+        from (none_earlier lane.keys.items (key_of other) (q.sound other.endpoint lane here).order
+        (sym (held_is lanes q.apart other ∙ ap (λ o. option_map_or (λ l. has_key l (key_of other)) o false) here)
         ∙ parts.0))
       where
-        from : (turn : Turn) × (slice_get lane.turns.items 0 ≡ Some turn) × (comes_before (turn_of other) turn ≡ false)
+        from : (key : QueueKey) × (slice_get lane.keys.items 0 ≡ Some key) × (comes_before (key_of other) key ≡ false)
             → (first : Pair) × (slice_get firsts 0 ≡ Some first) × IsNoLater first other
-        from (turn, is, later) =
-            let own = pair_at lane.mark.endpoint turn in
+        from (key, is, later) =
+            let own = pair_at lane.state.endpoint key in
             behind (none_before firsts own q.order (is_among lanes firsts len capacity other.endpoint lane q here own
-            (is_its_first lane turn room is)))
+            (is_its_first lane key room is)))
           where
-            through : (first : Pair) → IsNotBefore turn (turn_of first) → IsNotBefore (turn_of other) turn
+            through : (first : Pair) → IsNotBefore key (key_of first) → IsNotBefore (key_of other) key
                 → IsNoLater first other
             through first a b = record { due = omega (arith, a.due, b.due); tie = λ same. tie a b same }
               where
-                tie : IsNotBefore turn (turn_of first) → IsNotBefore (turn_of other) turn → first.due ≡ other.due
+                tie : IsNotBefore key (key_of first) → IsNotBefore (key_of other) key → first.due ≡ other.due
                     → first.seq ≤ other.seq
                 tie a b same =
-                    let one : turn.due ≡ first.due = omega (arith, a.due, b.due, same) in
-                    let two : other.due ≡ turn.due = omega (arith, a.due, b.due, same) in
+                    let one : key.due ≡ first.due = omega (arith, a.due, b.due, same) in
+                    let two : other.due ≡ key.due = omega (arith, a.due, b.due, same) in
                     omega (arith, a.tie one, b.tie two)
 
-            behind : (first : Pair) × (slice_get firsts 0 ≡ Some first) × (comes_before turn (turn_of first) ≡ false)
+            behind : (first : Pair) × (slice_get firsts 0 ≡ Some first) × (comes_before key (key_of first) ≡ false)
                 → (first : Pair) × (slice_get firsts 0 ≡ Some first) × IsNoLater first other
             behind (first, at, none) = (
               first,
               at,
-              through first (not_before turn (turn_of first) none)
-                  (not_before (turn_of other) turn later),
+              through first (not_before key (key_of first) none)
+                  (not_before (key_of other) key later),
             )
 
 -- the first of the first pairs is ready once it is due
@@ -415,29 +417,29 @@ first_ready lanes firsts len capacity now pair q at due = pick (lane_in lanes pa
     pick None e f = absurd (let no = f in cc)
     pick (Some lane) e f =
         let first = the_first lane pair f in
-        and_from (is_held (queue_of lanes) pair) (is_ready_by (map (λ lane. lane.mark) lanes) now pair)
-        (held_is lanes q.apart pair ∙ ap (λ o. option_map_or (λ l. has_turn l (turn_of pair)) o false) e
-        ∙ list_any_at (same_turn (turn_of pair)) lane.turns.items 0 (turn_of pair)
-        (slice_get_within lane.turns.items 0 (turn_of pair) first.2)
-        (ap (same_turn (turn_of pair)) (get_or_from_slice_get lane.turns.items 0 (turn_of pair) (turn_of pair) first.2)
-        ∙ same_turn_itself (turn_of pair)))
-        (and_from (nat_le pair.due now) (has_room_in (map (λ lane. lane.mark) lanes) pair.endpoint)
+        and_from (is_held (queue_of lanes) pair) (is_ready_by (map (λ lane. lane.state) lanes) now pair)
+        (held_is lanes q.apart pair ∙ ap (λ o. option_map_or (λ l. has_key l (key_of pair)) o false) e
+        ∙ list_any_at (same_key (key_of pair)) lane.keys.items 0 (key_of pair)
+        (slice_get_within lane.keys.items 0 (key_of pair) first.2)
+        (ap (same_key (key_of pair)) (get_or_from_slice_get lane.keys.items 0 (key_of pair) (key_of pair) first.2)
+        ∙ same_key_itself (key_of pair)))
+        (and_from (nat_le pair.due now) (has_room_in (map (λ lane. lane.state) lanes) pair.endpoint)
         (le-leb pair.due now due)
-        (ap (λ o. option_map_or (λ m. m.room) o false) (mark_at lanes pair.endpoint lane e) ∙ first.1))
+        (ap (λ o. option_map_or (λ m. m.room) o false) (state_at lanes pair.endpoint lane e) ∙ first.1))
 
-pub no_mark : (lanes : List Lane) (endpoint : List ℕ) → lane_in lanes endpoint ≡ None
-    → mark_in (map (λ lane. lane.mark) lanes) endpoint ≡ None
-no_mark lanes endpoint none = marked lanes endpoint ∙ ap (option_map (λ lane. lane.mark)) none
+pub no_state : (lanes : List Lane) (endpoint : List ℕ) → lane_in lanes endpoint ≡ None
+    → lane_state_in (map (λ lane. lane.state) lanes) endpoint ≡ None
+no_state lanes endpoint none = state_is lanes endpoint ∙ ap (option_map (λ lane. lane.state)) none
 
 pub held_in : (lanes : List Lane) (lane : Lane) (pair : Pair) → AreApart (names_of lanes)
-    → lane_in lanes pair.endpoint ≡ Some lane → is_held (queue_of lanes) pair ≡ has_turn lane (turn_of pair)
+    → lane_in lanes pair.endpoint ≡ Some lane → is_held (queue_of lanes) pair ≡ has_key lane (key_of pair)
 held_in lanes lane pair apart at = held_is lanes apart pair
-    ∙ ap (λ o. option_map_or (λ l. has_turn l (turn_of pair)) o false) at
+    ∙ ap (λ o. option_map_or (λ l. has_key l (key_of pair)) o false) at
 
 pub held_in_none : (lanes : List Lane) (pair : Pair) → AreApart (names_of lanes) → lane_in lanes pair.endpoint ≡ None
     → is_held (queue_of lanes) pair ≡ false
 held_in_none lanes pair apart none = held_is lanes apart pair
-    ∙ ap (λ o. option_map_or (λ l. has_turn l (turn_of pair)) o false) none
+    ∙ ap (λ o. option_map_or (λ l. has_key l (key_of pair)) o false) none
 
 pub some_map : {X Y : Type 0} (f : X → Y) (o : Option X) → is_some (option_map f o) ≡ is_some o
 some_map f None = refl
@@ -446,66 +448,69 @@ some_map f (Some x) = refl
 -- Places
 
 pub free_at : (lanes : List Lane) (endpoint : List ℕ) (lane : Lane) → lane_in lanes endpoint ≡ Some lane
-    → free_in (map (λ lane. lane.mark) lanes) endpoint ≡ lane.mark.free
-free_at lanes endpoint lane at = ap (λ o. option_map_or (λ m. m.free) o 0) (mark_at lanes endpoint lane at)
+    → free_in (map (λ lane. lane.state) lanes) endpoint ≡ lane.state.free
+free_at lanes endpoint lane at = ap (λ o. option_map_or (λ m. m.free) o 0) (state_at lanes endpoint lane at)
 
 pub none_free : (lanes : List Lane) (endpoint : List ℕ) → lane_in lanes endpoint ≡ None
-    → free_in (map (λ lane. lane.mark) lanes) endpoint ≡ 0
-none_free lanes endpoint none = ap (λ o. option_map_or (λ m. m.free) o 0) (no_mark lanes endpoint none)
+    → free_in (map (λ lane. lane.state) lanes) endpoint ≡ 0
+none_free lanes endpoint none = ap (λ o. option_map_or (λ m. m.free) o 0) (no_state lanes endpoint none)
 
 pub none_reserved : (lanes : List Lane) (endpoint : List ℕ) → lane_in lanes endpoint ≡ None
-    → is_some (mark_in (map (λ lane. lane.mark) lanes) endpoint) ≡ true → ⊥
-none_reserved lanes endpoint none some = let clash = sym (ap is_some (no_mark lanes endpoint none)) ∙ some in cc
+    → is_some (lane_state_in (map (λ lane. lane.state) lanes) endpoint) ≡ true → ⊥
+none_reserved lanes endpoint none some = let clash = sym (ap is_some (no_state lanes endpoint none)) ∙ some in cc
 
 pub free_set : (lanes : List Lane) (endpoint : List ℕ) (i : ℕ) (held new : Lane)
-    → Some i ≡ position (is_of endpoint) lanes → held ≡ slice_index_or lanes i held → new.mark.endpoint
-    ≡ held.mark.endpoint
-    → free_in (map (λ lane. lane.mark) (slice_set lanes i new)) endpoint ≡ new.mark.free
+    → Some i ≡ position (is_of endpoint) lanes → held ≡ slice_index_or lanes i held → new.state.endpoint
+    ≡ held.state.endpoint
+    → free_in (map (λ lane. lane.state) (slice_set lanes i new)) endpoint ≡ new.state.free
 free_set lanes endpoint i held new at is keeps =
-    ap (λ o. option_map_or (λ m. m.free) o 0) (now_marked lanes endpoint i held new at is keeps endpoint
-    ∙ ap (λ b. if b then Some new.mark else mark_in (map (λ lane. lane.mark) lanes) endpoint)
+    ap (λ o. option_map_or (λ m. m.free) o 0) (state_now lanes endpoint i held new at is keeps endpoint
+    ∙ ap (λ b. if b then Some new.state else lane_state_in (map (λ lane. lane.state) lanes) endpoint)
     ((bytes_decides endpoint endpoint).1 refl))
 
--- the mark is the one that is asked for
-sets_mark : (marks marks' : List Mark) (endpoint : List ℕ) (mark mark' : Mark) → mark ≡ mark' → mark.endpoint ≡ endpoint
-    → ((other : List ℕ) → mark_in marks' other ≡ (if bytes_eq endpoint other then Some mark else mark_in marks other))
-    → Sets marks marks' mark'
-sets_mark marks marks' endpoint mark mark' same name sets =
-    subst (Sets marks marks') same
-    (λ other. sets other ∙ ap (λ n. if bytes_eq n other then Some mark else mark_in marks other) (sym name))
+-- the state is the one that is asked for
+sets_state : (states states' : List LaneState) (endpoint : List ℕ) (state state' : LaneState) → state ≡ state'
+    → state.endpoint ≡ endpoint
+    → ((other : List ℕ) → lane_state_in states' other
+    ≡ (if bytes_eq endpoint other then Some state else lane_state_in states other))
+    → Sets states states' state'
+sets_state states states' endpoint state state' same name sets =
+    subst (Sets states states') same
+    (λ other. sets other ∙ ap (λ n. if bytes_eq n other then Some state else lane_state_in states other) (sym name))
 
 pub reserved_at : (lanes : List Lane) (endpoint : List ℕ) (i more : ℕ) (held new : Lane)
     → Some i ≡ position (is_of endpoint) lanes → held ≡ slice_index_or lanes i held
-    → new.mark.endpoint ≡ held.mark.endpoint → new.mark ≡ mark_for held.mark.endpoint more (Some held.mark)
-    → Sets (map (λ lane. lane.mark) lanes) (map (λ lane. lane.mark) (slice_set lanes i new))
-    (mark_for endpoint more (mark_in (map (λ lane. lane.mark) lanes) endpoint))
+    → new.state.endpoint ≡ held.state.endpoint → new.state ≡ lane_state_for held.state.endpoint more (Some held.state)
+    → Sets (map (λ lane. lane.state) lanes) (map (λ lane. lane.state) (slice_set lanes i new))
+    (lane_state_for endpoint more (lane_state_in (map (λ lane. lane.state) lanes) endpoint))
 reserved_at lanes endpoint i more held new at is keeps set = grind (
   arith,
   lane_at lanes endpoint i held at is,
-  now_marked lanes endpoint i held new at is keeps,
-  sets_mark,
+  state_now lanes endpoint i held new at is keeps,
+  sets_state,
   more,
-  mark_at,
+  state_at,
 )
 
 pub reserved_new : (lanes : List Lane) (endpoint : List ℕ) (more : ℕ) (first new : Lane) → lane_in lanes endpoint ≡ None
-    → first.mark ≡ mark_for endpoint 0 None → new.mark ≡ mark_for first.mark.endpoint more (Some first.mark)
-    → Sets (map (λ lane. lane.mark) lanes) (map (λ lane. lane.mark) (lanes ++ new ∷ []))
-    (mark_for endpoint more (mark_in (map (λ lane. lane.mark) lanes) endpoint))
-reserved_new lanes endpoint more first new none start set = grind (arith, sets_mark, more, no_mark, marked, added)
+    → first.state ≡ lane_state_for endpoint 0 None → new.state ≡ lane_state_for first.state.endpoint more
+    (Some first.state)
+    → Sets (map (λ lane. lane.state) lanes) (map (λ lane. lane.state) (lanes ++ new ∷ []))
+    (lane_state_for endpoint more (lane_state_in (map (λ lane. lane.state) lanes) endpoint))
+reserved_new lanes endpoint more first new none start set = grind (arith, sets_state, more, no_state, state_is, added)
 
 -- What is seen of it is kept
 
 pub seen_the_same : (lanes : List Lane) (i : ℕ) (held new : Lane) → held ≡ slice_index_or lanes i held
-    → i < length lanes → new.mark ≡ held.mark → new.turns.items ≡ held.turns.items
+    → i < length lanes → new.state ≡ held.state → new.keys.items ≡ held.keys.items
     → queue_of (slice_set lanes i new) ≡ queue_of lanes
-seen_the_same lanes i held new is within mark turns = grind (arith, kept_flat, kept_map)
+seen_the_same lanes i held new is within state keys = grind (arith, kept_flat, kept_map)
 
 pub same_pairs : (lanes : List Lane) (i : ℕ) (held new : Lane) (pair : Pair) → held ≡ slice_index_or lanes i held
-    → i < length lanes → new.mark.endpoint ≡ held.mark.endpoint → new.turns.items ≡ held.turns.items
+    → i < length lanes → new.state.endpoint ≡ held.state.endpoint → new.keys.items ≡ held.keys.items
     → is_held (queue_of (slice_set lanes i new)) pair ≡ is_held (queue_of lanes) pair
-same_pairs lanes i held new pair is within name turns = ap (list_any (same_pair pair))
-    (kept_flat pairs_of lanes i held new is within (λ k. map (pair_at (name k)) (turns k)))
+same_pairs lanes i held new pair is within name keys = ap (list_any (same_pair pair))
+    (kept_flat pairs_of lanes i held new is within (λ k. map (pair_at (name k)) (keys k)))
 
 -- The one that is next
 
@@ -538,9 +543,9 @@ none_due lanes firsts len capacity now first q at later pair = false_from_ne_tru
     clash : is_ready (queue_of lanes) now pair ≡ true → (first : Pair) × (slice_get firsts 0 ≡ Some first)
         × IsNoLater first pair → ⊥
     clash ready (other, is, before) =
-        let parts = and_parts (is_held (queue_of lanes) pair) (is_ready_by (map (λ lane. lane.mark) lanes) now pair)
+        let parts = and_parts (is_held (queue_of lanes) pair) (is_ready_by (map (λ lane. lane.state) lanes) now pair)
         ready in
         let due : pair.due ≤ now = leb-true pair.due now
-        (and_parts (nat_le pair.due now) (has_room_in (map (λ lane. lane.mark) lanes) pair.endpoint) parts.1).0 in
+        (and_parts (nat_le pair.due now) (has_room_in (map (λ lane. lane.state) lanes) pair.endpoint) parts.1).0 in
         let same : other.due ≡ first.due = ap (λ (p : Pair). p.due) (same_Some other first (sym is ∙ at)) in
         omega (arith, due, before.due, same, later)

@@ -8,52 +8,52 @@ use Rattle.std.specs.VecDeque.{deque_len, deque_capacity}
 use Rattle.relay_types.specs.Values.{Text, Seq}
 use Rattle.claim_queue.specs.declared.lanes.Lane.{Lane}
 use Rattle.claim_queue.specs.declared.pairs.Pair.{Pair}
-use Rattle.claim_queue.specs.declared.pairs.Turn.{Turn}
-use Rattle.claim_queue.specs.Queues.{QueueValue, is_mark, same_pair}
+use Rattle.claim_queue.specs.declared.pairs.QueueKey.{QueueKey}
+use Rattle.claim_queue.specs.Queues.{QueueValue, is_state_of, same_pair}
 
--- Turns
+-- Keys
 
-abbrev pub turn_of : Pair → Turn
-turn_of pair = record { due = pair.due; seq = pair.seq }
+abbrev pub key_of : Pair → QueueKey
+key_of pair = record { due = pair.due; seq = pair.seq }
 
-abbrev pub pair_at : (endpoint : Text) → Turn → Pair
-pair_at endpoint turn = record { endpoint = endpoint; due = turn.due; seq = turn.seq }
+abbrev pub pair_at : (endpoint : Text) → QueueKey → Pair
+pair_at endpoint key = record { endpoint = endpoint; due = key.due; seq = key.seq }
 
-abbrev pub same_turn : Turn → Turn → Bool
-same_turn a b = nat_eq b.seq a.seq && nat_eq b.due a.due
+abbrev pub same_key : QueueKey → QueueKey → Bool
+same_key a b = nat_eq b.seq a.seq && nat_eq b.due a.due
 
-abbrev pub is_turn_numbered : (seq : Seq) → Turn → Bool
-is_turn_numbered seq turn = nat_eq turn.seq seq
+abbrev pub is_key_numbered : (seq : Seq) → QueueKey → Bool
+is_key_numbered seq key = nat_eq key.seq seq
 
 -- due earlier, or at the same moment with a smaller number
-abbrev pub comes_before : Turn → Turn → Bool
+abbrev pub comes_before : QueueKey → QueueKey → Bool
 comes_before a b = nat_lt a.due b.due || (nat_eq a.due b.due && nat_lt a.seq b.seq)
 
 -- each comes before those after it
-abbrev pub IsInOrder : List Turn → Type 0
-IsInOrder turns = AllPairs (λ a b. IsTrue (comes_before a b)) turns
+abbrev pub IsInOrder : List QueueKey → Type 0
+IsInOrder keys = AllPairs (λ a b. IsTrue (comes_before a b)) keys
 
 -- Lanes
 
--- its turns are in order, and there is memory for them and for its free places
+-- its keys are in order, and there is memory for them and for its free places
 pub record IsSound (lane : Lane) : Type 0 where
-  pub order : IsInOrder lane.turns.items
-  pub within : deque_len lane.turns + lane.mark.free ≤ deque_capacity lane.turns
+  pub order : IsInOrder lane.keys.items
+  pub within : deque_len lane.keys + lane.state.free ≤ deque_capacity lane.keys
 
-abbrev pub has_turn : Lane → Turn → Bool
-has_turn lane turn = list_any (same_turn turn) lane.turns.items
+abbrev pub has_key : Lane → QueueKey → Bool
+has_key lane key = list_any (same_key key) lane.keys.items
 
 abbrev pub pairs_of : Lane → List Pair
-pairs_of lane = map (pair_at lane.mark.endpoint) lane.turns.items
+pairs_of lane = map (pair_at lane.state.endpoint) lane.keys.items
 
 abbrev pub is_of : (endpoint : Text) → Lane → Bool
-is_of endpoint lane = is_mark endpoint lane.mark
+is_of endpoint lane = is_state_of endpoint lane.state
 
 abbrev pub lane_in : List Lane → (endpoint : Text) → Option Lane
 lane_in lanes endpoint = find (is_of endpoint) lanes
 
 abbrev pub names_of : List Lane → List Text
-names_of lanes = map (λ lane. lane.mark.endpoint) lanes
+names_of lanes = map (λ lane. lane.state.endpoint) lanes
 
 -- no name stands twice
 abbrev pub AreApart : List Text → Type 0
@@ -62,13 +62,13 @@ AreApart (name ∷ names) = (list_any (λ other. bytes_eq other name) names ≡ 
 
 -- what the queue is seen as
 abbrev pub queue_of : List Lane → QueueValue
-queue_of lanes = record { pairs = flat_map pairs_of lanes; marks = map (λ lane. lane.mark) lanes }
+queue_of lanes = record { pairs = flat_map pairs_of lanes; states = map (λ lane. lane.state) lanes }
 
 -- First pairs
 
 -- the first pair of an endpoint that has room
 abbrev pub first_of : Lane → Option Pair
-first_of lane = if lane.mark.room then option_map (pair_at lane.mark.endpoint) (slice_get lane.turns.items 0) else None
+first_of lane = if lane.state.room then option_map (pair_at lane.state.endpoint) (slice_get lane.keys.items 0) else None
 
 abbrev pub is_the : Option Pair → Pair → Bool
 is_the first pair = option_map_or (same_pair pair) first false
@@ -83,7 +83,7 @@ absent first = if is_some first then 0 else 1
 
 -- none comes before one that stands before it, and none stands twice
 abbrev pub AreInOrder : List Pair → Type 0
-AreInOrder firsts = AllPairs (λ a b. (comes_before (turn_of b) (turn_of a) ≡ false) × (same_pair a b ≡ false)) firsts
+AreInOrder firsts = AllPairs (λ a b. (comes_before (key_of b) (key_of a) ≡ false) × (same_pair a b ≡ false)) firsts
 
 -- of the pairs the old first one of an endpoint is gone, and the new one is held
 abbrev pub Renews : (old new : Option Pair) (before after : List Pair) → Type 0

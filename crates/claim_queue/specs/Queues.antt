@@ -1,21 +1,21 @@
 -- What a queue is seen as, what each call makes of it, and which pair is next. The order of its two lists means
 -- nothing: all that is said of a queue is said by which pairs it holds (`is_held`) and what is kept of which endpoint
--- (`mark_of`).
+-- (`lane_state_of`).
 use Rattle.std.specs.Prelude.{◌≡◌, ℕ, ◌+◌, ◌-◌, ◌≤◌, max, Bool, false, not, ◌&&◌, ◌||◌, nat_eq, nat_le, bytes_eq, List}
 use Rattle.std.specs.Prelude.{[], Option, Some, None, is_some, option_map, find, IsTrue, if◌then◌else◌}
 use Rattle.std.specs.List.{list_any}
 use Rattle.std.specs.Option.{option_map_or}
 use Rattle.relay_types.specs.Values.{Text, Seq, Seconds}
-use Rattle.claim_queue.specs.declared.marks.Mark.{Mark}
+use Rattle.claim_queue.specs.declared.lane_state.LaneState.{LaneState}
 use Rattle.claim_queue.specs.declared.pairs.Pair.{Pair}
 
 -- the deliveries that wait, and what is kept of each endpoint
 pub record QueueValue : Type 0 where
   pub pairs : List Pair
-  pub marks : List Mark
+  pub states : List LaneState
 
 abbrev pub empty_queue : QueueValue
-empty_queue = record { pairs = []; marks = [] }
+empty_queue = record { pairs = []; states = [] }
 
 -- The deliveries that wait
 
@@ -45,75 +45,75 @@ Loses old new lost = (pair : Pair) → is_held new pair ≡ (is_held old pair &&
 
 -- What is kept of an endpoint
 
-abbrev pub is_mark : (endpoint : Text) → Mark → Bool
-is_mark endpoint m = bytes_eq m.endpoint endpoint
+abbrev pub is_state_of : (endpoint : Text) → LaneState → Bool
+is_state_of endpoint m = bytes_eq m.endpoint endpoint
 
-abbrev pub mark_in : List Mark → (endpoint : Text) → Option Mark
-mark_in marks endpoint = find (is_mark endpoint) marks
+abbrev pub lane_state_in : List LaneState → (endpoint : Text) → Option LaneState
+lane_state_in states endpoint = find (is_state_of endpoint) states
 
-abbrev pub mark_of : QueueValue → (endpoint : Text) → Option Mark
-mark_of q endpoint = mark_in q.marks endpoint
+abbrev pub lane_state_of : QueueValue → (endpoint : Text) → Option LaneState
+lane_state_of q endpoint = lane_state_in q.states endpoint
 
 -- whether places were reserved for it
 abbrev pub is_reserved : QueueValue → (endpoint : Text) → Bool
-is_reserved q endpoint = is_some (mark_of q endpoint)
+is_reserved q endpoint = is_some (lane_state_of q endpoint)
 
--- whether it has room; one without a mark has none
-abbrev pub has_room_in : List Mark → (endpoint : Text) → Bool
-has_room_in marks endpoint = option_map_or (λ m. m.room) (mark_in marks endpoint) false
+-- whether it has room; one without a state has none
+abbrev pub has_room_in : List LaneState → (endpoint : Text) → Bool
+has_room_in states endpoint = option_map_or (λ m. m.room) (lane_state_in states endpoint) false
 
 -- how many of its places are free
-abbrev pub free_in : List Mark → (endpoint : Text) → ℕ
-free_in marks endpoint = option_map_or (λ m. m.free) (mark_in marks endpoint) 0
+abbrev pub free_in : List LaneState → (endpoint : Text) → ℕ
+free_in states endpoint = option_map_or (λ m. m.free) (lane_state_in states endpoint) 0
 
 abbrev pub free_places : QueueValue → (endpoint : Text) → ℕ
-free_places q endpoint = free_in q.marks endpoint
+free_places q endpoint = free_in q.states endpoint
 
 -- this many places are free
 pub record IsReservedFor (q : QueueValue) (endpoint : Text) (more : ℕ) : Type 0 where
   pub reserved : IsTrue (is_reserved q endpoint)
   pub free : more ≤ free_places q endpoint
 
--- the mark once this many more can be inserted
-abbrev pub mark_for : (endpoint : Text) (more : ℕ) → Option Mark → Mark
-mark_for endpoint more None = record { endpoint = endpoint; room = false; free = more }
-mark_for endpoint more (Some m) = record m { free = max m.free more }
+-- the state once this many more can be inserted
+abbrev pub lane_state_for : (endpoint : Text) (more : ℕ) → Option LaneState → LaneState
+lane_state_for endpoint more None = record { endpoint = endpoint; room = false; free = more }
+lane_state_for endpoint more (Some m) = record m { free = max m.free more }
 
-abbrev pub reserved_mark : QueueValue → (endpoint : Text) (more : ℕ) → Mark
-reserved_mark q endpoint more = mark_for endpoint more (mark_of q endpoint)
+abbrev pub reserved_state : QueueValue → (endpoint : Text) (more : ℕ) → LaneState
+reserved_state q endpoint more = lane_state_for endpoint more (lane_state_of q endpoint)
 
--- the mark once a place was taken, once one was given back, and once the room was told
-abbrev pub place_taken : Mark → Mark
+-- the state once a place was taken, once one was given back, and once the room was told
+abbrev pub place_taken : LaneState → LaneState
 place_taken m = record m { free = m.free - 1 }
 
-abbrev pub place_given : Mark → Mark
+abbrev pub place_given : LaneState → LaneState
 place_given m = record m { free = m.free + 1 }
 
-abbrev pub with_room : (room : Bool) → Mark → Mark
+abbrev pub with_room : (room : Bool) → LaneState → LaneState
 with_room room m = record m { room = room }
 
 -- this is kept of the endpoint that it names, and of each other one what was kept before
-abbrev pub Sets : (old new : List Mark) (mark : Mark) → Type 0
-Sets old new mark =
-    (endpoint : Text) → mark_in new endpoint
-    ≡ (if bytes_eq mark.endpoint endpoint then Some mark else mark_in old endpoint)
+abbrev pub Sets : (old new : List LaneState) (state : LaneState) → Type 0
+Sets old new state =
+    (endpoint : Text) → lane_state_in new endpoint
+    ≡ (if bytes_eq state.endpoint endpoint then Some state else lane_state_in old endpoint)
 
-abbrev pub SetsMark : (old new : QueueValue) (mark : Mark) → Type 0
-SetsMark old new mark = Sets old.marks new.marks mark
+abbrev pub SetsState : (old new : QueueValue) (state : LaneState) → Type 0
+SetsState old new state = Sets old.states new.states state
 
 -- what is kept of this endpoint is changed so, and nothing of any other one
-abbrev pub ChangesMark : (old new : QueueValue) (endpoint : Text) (change : Mark → Mark) → Type 0
-ChangesMark old new endpoint change = (other : Text) → mark_of new other
-    ≡ (if bytes_eq endpoint other then option_map change (mark_of old other) else mark_of old other)
+abbrev pub ChangesState : (old new : QueueValue) (endpoint : Text) (change : LaneState → LaneState) → Type 0
+ChangesState old new endpoint change = (other : Text) → lane_state_of new other
+    ≡ (if bytes_eq endpoint other then option_map change (lane_state_of old other) else lane_state_of old other)
 
 -- Which is next
 
 -- due at this moment, and of an endpoint that has room
-abbrev pub is_ready_by : List Mark → (now : Seconds) → Pair → Bool
-is_ready_by marks now pair = nat_le pair.due now && has_room_in marks pair.endpoint
+abbrev pub is_ready_by : List LaneState → (now : Seconds) → Pair → Bool
+is_ready_by states now pair = nat_le pair.due now && has_room_in states pair.endpoint
 
 abbrev pub is_ready : QueueValue → (now : Seconds) → Pair → Bool
-is_ready q now pair = is_held q pair && is_ready_by q.marks now pair
+is_ready q now pair = is_held q pair && is_ready_by q.states now pair
 
 -- not after the other by due moment, nor by number where both are due at one moment
 pub record IsNoLater (pair other : Pair) : Type 0 where

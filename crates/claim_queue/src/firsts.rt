@@ -1,12 +1,12 @@
-//! The first deliveries of the endpoints that have room, in the order of their turns.
+//! The first deliveries of the endpoints that have room, in the order of their keys.
 ghost use Rattle.std.specs.Prelude.{◌≡◌, ◌+◌, ◌<◌, ◌≤◌, ◌||◌, ◌&&◌, not, true, false, length, position, vec_len};
 ghost use Rattle.std.specs.Prelude.{vec_capacity, IsTrue, IfSome};
 ghost use Rattle.std.specs.List.{list_any};
 ghost use Rattle.std.specs.List.Sorted.{IsPartitionPoint};
 ghost use Rattle.claim_queue.specs.Queues.{same_pair};
-ghost use Rattle.claim_queue.specs.Lanes.{AreInOrder, Renews, absent, comes_before, is_the, turn_of};
+ghost use Rattle.claim_queue.specs.Lanes.{AreInOrder, Renews, absent, comes_before, is_the, key_of};
 
-use crate::pairs::{Pair, Turn};
+use crate::pairs::{Pair, QueueKey};
 
 // The place of the pair.
 fn position_of(firsts: &[Pair], pair: &Pair) -> Option<usize>
@@ -45,17 +45,17 @@ fn leave(firsts: &mut Vec<Pair>, old: Option<Pair>)
     }
 }
 
-// How many of the pairs come before this turn. The search goes by halves.
-fn place_of(firsts: &[Pair], turn: Turn) -> usize
+// How many of the pairs come before this key. The search goes by halves.
+fn place_of(firsts: &[Pair], key: QueueKey) -> usize
     requires { AreInOrder firsts.now }
     ensures bound { result ≤ length firsts.now }
-    ensures point { IsPartitionPoint (λ held. comes_before (turn_of held) turn ≡ true)
-        (λ held. comes_before (turn_of held) turn ≡ false) firsts.now result }
+    ensures point { IsPartitionPoint (λ held. comes_before (key_of held) key ≡ true)
+        (λ held. comes_before (key_of held) key ≡ false) firsts.now result }
 {
-    firsts.partition_point(|held| held.turn().comes_before(turn))
+    firsts.partition_point(|held| held.key().comes_before(key))
 }
 
-// Holds the pair from now on, at the place of its turn.
+// Holds the pair from now on, at the place of its key.
 fn hold(firsts: &mut Vec<Pair>, pair: Pair)
     requires unheld { list_any (same_pair pair) firsts.old.items ≡ false }
     requires place { vec_len firsts.old < vec_capacity firsts.old }
@@ -66,7 +66,7 @@ fn hold(firsts: &mut Vec<Pair>, pair: Pair)
     ensures len { vec_len firsts.new ≡ vec_len firsts.old + 1 }
     ensures capacity { vec_capacity firsts.new ≡ vec_capacity firsts.old }
 {
-    let place = place_of(firsts, pair.turn());
+    let place = place_of(firsts, pair.key());
     let _ = firsts.insert(place, pair);
 }
 

@@ -3,8 +3,8 @@
 #![tactic(auto)]
 
 mod firsts;
+mod lane_state;
 mod lanes;
-mod marks;
 mod pairs;
 mod queue;
 

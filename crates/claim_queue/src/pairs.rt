@@ -1,7 +1,7 @@
-//! The deliveries that wait, and their turns.
+//! The deliveries that wait, and their keys.
 ghost use Rattle.std.specs.Prelude.{◌≡◌};
 ghost use Rattle.claim_queue.specs.Queues.{same_pair};
-ghost use Rattle.claim_queue.specs.Lanes.{comes_before, same_turn, turn_of};
+ghost use Rattle.claim_queue.specs.Lanes.{comes_before, same_key, key_of};
 
 use relay_types::Name;
 
@@ -13,9 +13,9 @@ pub struct Pair {
     pub(crate) seq: u64,
 }
 
-/// When a delivery has its turn: the moment at which it is due, and its number.
+/// When a delivery has its key: the moment at which it is due, and its number.
 #[derive(Clone, Copy)]
-pub struct Turn {
+pub struct QueueKey {
     pub(crate) due: u64,
     pub(crate) seq: u64,
 }
@@ -27,24 +27,24 @@ impl Pair {
         self.seq == other.seq && self.due == other.due && self.endpoint.is(other.endpoint)
     }
 
-    pub(crate) fn turn(&self) -> Turn
-        ensures { result ≡ turn_of self.now }
+    pub(crate) fn key(&self) -> QueueKey
+        ensures { result ≡ key_of self.now }
     {
-        Turn {
+        QueueKey {
             due: self.due,
             seq: self.seq,
         }
     }
 }
 
-impl Turn {
-    pub(crate) fn is(&self, other: Turn) -> bool
-        ensures { result ≡ same_turn other self.now }
+impl QueueKey {
+    pub(crate) fn is(&self, other: QueueKey) -> bool
+        ensures { result ≡ same_key other self.now }
     {
         self.seq == other.seq && self.due == other.due
     }
 
-    pub(crate) fn comes_before(&self, other: Turn) -> bool
+    pub(crate) fn comes_before(&self, other: QueueKey) -> bool
         ensures { result ≡ comes_before self.now other }
     {
         self.due < other.due || (self.due == other.due && self.seq < other.seq)

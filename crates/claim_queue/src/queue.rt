@@ -1,12 +1,12 @@
 //! The queue.
 ghost use Rattle.std.specs.Prelude.{◌≡◌, ◌<◌, ◌+◌, ◌↔◌, IsTrue, IsOk, IsNone, IfSome, OnOk, OnErr};
-ghost use Rattle.claim_queue.specs.Queues.{ChangesMark, Gains, HasSamePairs, IsNew, IsNext, IsReservedFor, Loses};
-ghost use Rattle.claim_queue.specs.Queues.{NothingIsReady, SetsMark, empty_queue, free_places, is_held, is_reserved};
-ghost use Rattle.claim_queue.specs.Queues.{pair_of, place_given, place_taken, reserved_mark, with_room};
+ghost use Rattle.claim_queue.specs.Queues.{ChangesState, Gains, HasSamePairs, IsNew, IsNext, IsReservedFor, Loses};
+ghost use Rattle.claim_queue.specs.Queues.{NothingIsReady, SetsState, empty_queue, free_places, is_held, is_reserved};
+ghost use Rattle.claim_queue.specs.Queues.{pair_of, place_given, place_taken, reserved_state, with_room};
 
 use crate::firsts::renew;
 use crate::lanes::{Lane, has_seq, lane_of, place_of};
-use crate::pairs::{Pair, Turn};
+use crate::pairs::{Pair, QueueKey};
 use relay_types::Name;
 use std::alloc::{AllocError, Global};
 use std::marker::Model;
@@ -20,7 +20,7 @@ pub struct ClaimQueue {
     alloc: Global,
     // One of each endpoint for which places were reserved.
     lanes: Vec<Lane>,
-    // The first delivery of each endpoint that has room, in the order of their turns.
+    // The first delivery of each endpoint that has room, in the order of their keys.
     firsts: Vec<Pair>,
 }
 
@@ -53,7 +53,7 @@ impl ClaimQueue {
     /// it is set. An error means that an allocation failed.
     pub fn reserve(&mut self, endpoint: Name, more: usize) -> Result<(), AllocError>
         ensures pairs { OnOk result (HasSamePairs self.old self.new) }
-        ensures mark { OnOk result (SetsMark self.old self.new (reserved_mark self.old endpoint more)) }
+        ensures state { OnOk result (SetsState self.old self.new (reserved_state self.old endpoint more)) }
         ensures enough { IsReservedFor self.old endpoint more → IsOk result }
         ensures err { OnErr result (self.new ≡ self.old) }
     {
@@ -73,12 +73,12 @@ impl ClaimQueue {
         requires place { 0 < free_places self.old endpoint }
         requires unheld { IsNew self.old seq }
         ensures pairs { Gains self.old self.new (pair_of endpoint due seq) }
-        ensures mark { ChangesMark self.old self.new endpoint place_taken }
+        ensures state { ChangesState self.old self.new endpoint place_taken }
     {
         if let Some(place) = place_of(&self.lanes, endpoint) {
             let lane = &mut self.lanes[place];
             let before = lane.first();
-            lane.insert(Turn { due, seq });
+            lane.insert(QueueKey { due, seq });
             let after = lane.first();
             renew(&mut self.firsts, before, after);
         }
@@ -89,13 +89,13 @@ impl ClaimQueue {
     pub fn remove(&mut self, endpoint: Name, due: u64, seq: u64)
         requires held { IsTrue (is_held self.old (pair_of endpoint due seq)) }
         ensures pairs { Loses self.old self.new (pair_of endpoint due seq) }
-        ensures mark { ChangesMark self.old self.new endpoint place_given }
+        ensures state { ChangesState self.old self.new endpoint place_given }
         ensures place { free_places self.new endpoint ≡ free_places self.old endpoint + 1 }
     {
         if let Some(place) = place_of(&self.lanes, endpoint) {
             let lane = &mut self.lanes[place];
             let before = lane.first();
-            lane.remove(Turn { due, seq });
+            lane.remove(QueueKey { due, seq });
             let after = lane.first();
             renew(&mut self.firsts, before, after);
         }
@@ -105,12 +105,12 @@ impl ClaimQueue {
     pub fn set_room(&mut self, endpoint: Name, room: bool)
         requires reserved { IsTrue (is_reserved self.old endpoint) }
         ensures pairs { HasSamePairs self.old self.new }
-        ensures mark { ChangesMark self.old self.new endpoint (with_room room) }
+        ensures state { ChangesState self.old self.new endpoint (with_room room) }
     {
         if let Some(place) = place_of(&self.lanes, endpoint) {
             let lane = &mut self.lanes[place];
             let before = lane.first();
-            lane.mark.room = room;
+            lane.state.room = room;
             let after = lane.first();
             renew(&mut self.firsts, before, after);
         }
@@ -134,7 +134,7 @@ impl ClaimQueue {
         ensures { result ≡ free_places self.now endpoint }
     {
         match lane_of(&self.lanes, endpoint) {
-            Some(lane) => lane.mark.free,
+            Some(lane) => lane.state.free,
             None => 0,
         }
     }
@@ -151,7 +151,7 @@ impl ClaimQueue {
         ensures { result ≡ is_held self.now (pair_of endpoint due seq) }
     {
         match lane_of(&self.lanes, endpoint) {
-            Some(lane) => lane.has_turn(Turn { due, seq }),
+            Some(lane) => lane.has_key(QueueKey { due, seq }),
             None => false,
         }
     }

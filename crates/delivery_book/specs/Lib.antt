@@ -1,6 +1,6 @@
 pub mod Progress
 pub mod Entries
-pub mod Kept
+pub mod CompactProgress
 pub mod Fields
 pub mod Book
 pub mod Laws

@@ -5,7 +5,7 @@ ghost use Rattle.delivery_book.specs.Entries.{new_entry, row_in};
 
 use crate::progress::Progress;
 use crate::row::Row;
-use crate::small::{KeptId, Mark, SharedName};
+use crate::small::{KeptId, OptionalSeq, SharedName};
 use relay_types::{Body, Moment, MsgId, Name, State};
 
 /// An event that was taken in, by the record with this number, and what came of it: by all records, and by the settled
@@ -20,7 +20,7 @@ pub struct Entry {
     pub(crate) latest: Progress,
     pub(crate) settled: Progress,
     /// The Purge that took the delivery, while it waits to be settled.
-    pub(crate) taken_by: Mark,
+    pub(crate) taken_by: OptionalSeq,
 }
 
 impl Entry {
@@ -37,7 +37,7 @@ impl Entry {
             at,
             latest: fresh,
             settled: fresh,
-            taken_by: Mark::none(),
+            taken_by: OptionalSeq::none(),
         }
     }
 
@@ -82,7 +82,7 @@ impl Entry {
     {
         let takes = self.is_done_before(moment);
         if takes {
-            self.taken_by = Mark::of(seq);
+            self.taken_by = OptionalSeq::of(seq);
         }
         takes
     }

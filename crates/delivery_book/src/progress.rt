@@ -26,7 +26,7 @@ impl Model for Progress {
 
     ghost Value = { Progress };
 
-    ghost use Rattle.delivery_book.specs.Kept.{progress_by, since_in, AreCounts, since_back, status_back};
+    ghost use Rattle.delivery_book.specs.CompactProgress.{progress_by, since_in, AreCounts, since_back, status_back};
 
     ghost view = { λ p. progress_by p.attempts p.since p.failures p.last_status p.is_delivered };
 

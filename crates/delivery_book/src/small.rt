@@ -123,12 +123,12 @@ impl KeptId {
 
 /// The number of a Purge, or none.
 #[derive(Drop)]
-pub struct Mark {
+pub struct OptionalSeq {
     /// One more than the number; 0 for none.
     above: u64,
 }
 
-impl Model for Mark {
+impl Model for OptionalSeq {
     ghost use Rattle.std.specs.Prelude.{ℕ, ◌-◌, ◌==◌, Option, None, Some, if◌then◌else◌};
 
     ghost Value = { Option ℕ };
@@ -136,18 +136,18 @@ impl Model for Mark {
     ghost view = { λ m. if m.above == 0 then None else Some (m.above - 1) };
 }
 
-impl Mark {
-    pub(crate) fn none() -> Mark
+impl OptionalSeq {
+    pub(crate) fn none() -> OptionalSeq
         ensures { result ≡ None }
     {
-        Mark { above: 0 }
+        OptionalSeq { above: 0 }
     }
 
-    pub(crate) fn of(seq: u64) -> Mark
+    pub(crate) fn of(seq: u64) -> OptionalSeq
         requires { seq + 1 < 2 ^ 64 }
         ensures { result ≡ Some seq }
     {
-        Mark { above: seq + 1 }
+        OptionalSeq { above: seq + 1 }
     }
 
     pub(crate) fn get(&self) -> Option<u64>

@@ -205,7 +205,7 @@ places_held queue new book s due e places unheld there numbered opened timed hol
     let itself = same_pair_self (pair_of e.name due s) in
     let fewer : (x : Entry) → is_unheld new n x ≡ true → is_unheld queue n x ≡ true =
     λ x h. grind (arith, h, holds.pairs (own_pair x)) in
-    let mark = holds.mark n in
+    let mark = holds.state n in
     by_bool (bytes_eq e.name n)
     (λ same.
     let before : is_unheld queue n e ≡ true = grind (arith, was, same, opened) in
@@ -269,7 +269,7 @@ places_let_go queue new book pair places once lets = λ n.
     -- an entry that isn't held now wasn't held before, or is that of the pair
     let was : (x : Entry) → is_unheld new n x ≡ true → (is_unheld queue n x || nat_eq x.seq pair.seq) ≡ true =
     λ x h. grind (arith, nat_tests, h, lets.pairs (own_pair x)) in
-    let mark = lets.mark n in
+    let mark = lets.state n in
     by_bool (bytes_eq pair.endpoint n)
     (λ same.
     let more = count_within _ (is_unheld queue n) (λ (x : Entry). nat_eq x.seq pair.seq) book.entries was in
@@ -441,7 +441,7 @@ endpoint_there {d} {w} s a h e = accepted_known (all_records w) (all_records w) 
 
 pub room_is : {d : DeskValue} {w : World} {queue : QueueValue} (name : List ℕ) → StandsFor d w
     → AreLimiters d.limiters d.endpoints → AreMarked queue d.endpoints d.limiters d.live
-    → has_endpoint (all_records w) name ≡ true → has_room_in queue.marks name ≡ has_room w name
+    → has_endpoint (all_records w) name ≡ true → has_room_in queue.states name ≡ has_room w name
 room_is {d} {w} {queue} name h are marked known =
     marked.rooms name (marked.known name (known_is name h ∙ known))
     ∙ (λ i. h.books.of_endpoints.tells.enabled name i && nat_lt (in_flight_of name (h.live i))

@@ -8,8 +8,8 @@ use Rattle.desk.proofs.Words.{slice_get_within, slice_get-get_or, map-map, bytes
 use Rattle.desk.proofs.Words.{and_second, EstimatorValue, StandsForSamples, Explains, Books, WaitingValue, AreInStep}
 use Rattle.desk.proofs.Words.{changes_none, EndpointEntry, Entry, DeliveryRow, BookValue, HasOneEach, IsInStep}
 use Rattle.desk.proofs.Words.{empty_book, entry_at, is_pending_of, pending_in, settled_row, all_weaker, Row}
-use Rattle.desk.proofs.Words.{Pair, QueueValue, empty_queue, ChangesMark, IsNew, SetsMark, free_places, has_room_in}
-use Rattle.desk.proofs.Words.{is_held, is_reserved, pair_of, reserved_mark, with_room, Limiter, IsDesk, Opens}
+use Rattle.desk.proofs.Words.{Pair, QueueValue, empty_queue, ChangesState, IsNew, SetsState, free_places, has_room_in}
+use Rattle.desk.proofs.Words.{is_held, is_reserved, pair_of, reserved_state, with_room, Limiter, IsDesk, Opens}
 use Rattle.desk.proofs.Words.{AreLimiters, AreMarked, AreQueued, HasPlaces, Holds, KeepsPlaces, StandsAt, bound_by}
 use Rattle.desk.proofs.Words.{endpoint_at, idle_pair, is_unheld, new_limiter, room_by, waits_as, entry_of, nat_tests}
 use Rattle.desk.proofs.Words.{by_bool, by_option, nat_lt, option_and_then, row_if_settled}
@@ -137,7 +137,7 @@ has_all book queue e = nat_le (pending_in book e.name) (free_places queue e.name
 pub all_more : (old new : QueueValue) (book : BookValue) (i pending : ℕ) (row : DeliveryRow)
     → Some row ≡ option_and_then (row_if_settled book.settled_seq) (slice_get book.entries i)
     → pending ≡ pending_in book row.endpoint
-    → SetsMark old new (reserved_mark old row.endpoint pending) → list_all (has_all book old) (take i book.entries)
+    → SetsState old new (reserved_state old row.endpoint pending) → list_all (has_all book old) (take i book.entries)
     ≡ true → list_all (has_all book new) (take (i + 1) book.entries) ≡ true
 all_more old new book i pending row there is sets all =
     by_option (slice_get book.entries i) (λ e. absurd (grind (arith, there, e))) (λ x e.
@@ -184,18 +184,18 @@ is_among done name = list_any (λ m. bytes_eq m name) done
 
 pub record AreTold (queue : QueueValue) (book : endpoint_entries.BookValue) (limiters : List Limiter)
     (done : List (List ℕ)) : Type 0 where
-  pub rooms : (n : List ℕ) → has_room_in queue.marks n ≡ is_among done n && room_by book limiters [] n
+  pub rooms : (n : List ℕ) → has_room_in queue.states n ≡ is_among done n && room_by book limiters [] n
   pub known : (n : List ℕ) → is_among done n ≡ true → is_reserved queue n ≡ true
 
 pub told_places : (old between new : QueueValue) (name : List ℕ) (room : Bool)
-    → SetsMark old between (reserved_mark old name 0) → ChangesMark between new name (with_room room)
+    → SetsState old between (reserved_state old name 0) → ChangesState between new name (with_room room)
     → KeepsPlaces old new
 told_places old between new name room sets changes = λ n.
     grind (arith, places_reserved old between name 0 sets n, changes n)
 
 told_more : (old between new : QueueValue) (book : endpoint_entries.BookValue) (limiters : List Limiter)
-    (done : List (List ℕ)) (name : List ℕ) → SetsMark old between (reserved_mark old name 0)
-    → ChangesMark between new name (with_room (room_by book limiters [] name)) → AreTold old book limiters done
+    (done : List (List ℕ)) (name : List ℕ) → SetsState old between (reserved_state old name 0)
+    → ChangesState between new name (with_room (room_by book limiters [] name)) → AreTold old book limiters done
     → AreTold new book limiters (done ++ name ∷ [])
 told_more old between new book limiters done name sets changes told = record {
   rooms = λ n.
@@ -222,14 +222,14 @@ names_next book names i name are within is =
 pub told_next : (old between new : QueueValue) (book : endpoint_entries.BookValue) (limiters : List Limiter)
     (names : List (List ℕ)) (i : ℕ) (name : List ℕ) (live : List Row) → live ≡ []
     → names ≡ map (λ e. e.name) book.entries → i < length names → name ≡ get_or names i name
-    → SetsMark old between (reserved_mark old name 0)
-    → ChangesMark between new name (with_room (room_by book limiters live name))
+    → SetsState old between (reserved_state old name 0)
+    → ChangesState between new name (with_room (room_by book limiters live name))
     → AreTold old book limiters (take i (map (λ e. e.name) book.entries))
     → AreTold new book limiters (take (i + 1) (map (λ e. e.name) book.entries))
 told_next old between new book limiters names i name live none are within is sets changes told =
     subst (λ done. AreTold new book limiters done) (sym (names_next book names i name are within is))
     (told_more old between new book limiters (take i (map (λ (e : EndpointEntry). e.name) book.entries)) name sets
-    (subst (λ (rows : List Row). ChangesMark between new name (with_room (room_by book limiters rows name))) none
+    (subst (λ (rows : List Row). ChangesState between new name (with_room (room_by book limiters rows name))) none
     changes) told)
 
 among_known : (xs : List EndpointEntry) (n : List ℕ) → is_among (map (λ (e : EndpointEntry). e.name) xs) n ≡ is_some

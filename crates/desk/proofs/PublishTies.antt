@@ -4,13 +4,13 @@ use Rattle.desk.proofs.Words.{refl, sym, ◌∙◌, ap, subst, arith, cond, ◌&
 use Rattle.desk.proofs.Words.{if◌then◌else◌, by_option, bytes_eq, bytes_eq-Decides, count_by, count_by_snoc, Record}
 use Rattle.desk.proofs.Words.{Accept, records_of, MAX_RECORDS, Pending, is_in_state, BookValue, HasWaiting}
 use Rattle.desk.proofs.Words.{is_pending_of, new_entry, pending_in, state_in, with_event, HasChanges, WaitingValue}
-use Rattle.desk.proofs.Words.{outcomes_in, record_count, with_step, Row, Limiter, QueueValue, HasSamePairs, SetsMark}
-use Rattle.desk.proofs.Words.{mark_of, reserved_mark, AreTied, endpoint_at, IsDesk}
+use Rattle.desk.proofs.Words.{outcomes_in, record_count, with_step, Row, Limiter, QueueValue, HasSamePairs, SetsState}
+use Rattle.desk.proofs.Words.{lane_state_of, reserved_state, AreTied, endpoint_at, IsDesk}
 use Rattle.std.specs.Prelude.{◌≢◌, All, AllPairs}
 use Rattle.std.proofs.lemmas.List.Elements.{All-more, All-weaker}
 use Rattle.relay_types.specs.Steps.{accepts as event_accepts}
-use Rattle.claim_queue.specs.Queues.{IsReservedFor, mark_for}
-use Rattle.claim_queue.specs.declared.marks.Mark.{Mark}
+use Rattle.claim_queue.specs.Queues.{IsReservedFor, lane_state_for}
+use Rattle.claim_queue.specs.declared.lane_state.LaneState.{LaneState}
 use Rattle.endpoint_book.specs.Entries as endpoint_entries
 use Rattle.delivery_book.specs.Entries.{events_from, with_events}
 use Rattle.group_commit.specs.Steps.{is_outcome_record}
@@ -26,22 +26,24 @@ differ a b other = by_name a b (λ same. absurd (other same)) (λ apart. apart)
 
 -- Places
 
-same_mark : (m : Mark) (more : ℕ) → more ≤ m.free → record m { free = max m.free more } ≡ m
-same_mark m more enough = let same : max m.free more ≡ m.free = omega (arith, enough) in λ i. record m { free = same i }
+same_lane_state : (m : LaneState) (more : ℕ) → more ≤ m.free → record m { free = max m.free more } ≡ m
+same_lane_state m more enough = let same : max m.free more ≡ m.free = omega (arith, enough)
+    in λ i. record m { free = same i }
 
--- an endpoint with so many free places keeps its mark
-kept_mark : (queue : QueueValue) (name : List ℕ) (more : ℕ) → IsReservedFor queue name more
-    → SetsMark queue queue (reserved_mark queue name more)
-kept_mark queue name more h = by_option (mark_of queue name)
+-- an endpoint with so many free places keeps its lane's state
+kept_lane_state : (queue : QueueValue) (name : List ℕ) (more : ℕ) → IsReservedFor queue name more
+    → SetsState queue queue (reserved_state queue name more)
+kept_lane_state queue name more h = by_option (lane_state_of queue name)
     (λ none. let there = h.reserved in absurd (grind (arith, none, there)))
     (λ m there.
-    let enough : more ≤ m.free = subst (λ o. more ≤ option_map_or (λ (x : Mark). x.free) o 0) there h.free in
-    let same : reserved_mark queue name more ≡ m = ap (mark_for name more) there ∙ same_mark m more enough in
+    let enough : more ≤ m.free = subst (λ o. more ≤ option_map_or (λ (x : LaneState). x.free) o 0) there h.free in
+    let same : reserved_state queue name more ≡ m = ap (lane_state_for name more) there ∙ same_lane_state m more enough
+    in
     λ n. by_name name n
-    (λ own. ap (mark_of queue) (sym own) ∙ there ∙ ap Some (sym same)
-    ∙ ap (λ b. if b then Some (reserved_mark queue name more) else mark_of queue n)
-    (sym ((bytes_eq-Decides (reserved_mark queue name more).endpoint n).1 (reserved_named queue name more ∙ own))))
-    (λ apart. ap (λ b. if b then Some (reserved_mark queue name more) else mark_of queue n)
+    (λ own. ap (lane_state_of queue) (sym own) ∙ there ∙ ap Some (sym same)
+    ∙ ap (λ b. if b then Some (reserved_state queue name more) else lane_state_of queue n)
+    (sym ((bytes_eq-Decides (reserved_state queue name more).endpoint n).1 (reserved_named queue name more ∙ own))))
+    (λ apart. ap (λ b. if b then Some (reserved_state queue name more) else lane_state_of queue n)
     (sym (ap (λ text. bytes_eq text n) (reserved_named queue name more) ∙ apart))))
 
 -- Places are made for one endpoint after another
@@ -56,7 +58,7 @@ more_first queue = record {
 
 -- places for one more endpoint
 pub more_then : (first queue new : QueueValue) (name : List ℕ) (more : ℕ) → HasSamePairs queue new
-    → SetsMark queue new (reserved_mark queue name more) → HasMorePlaces first queue → HasMorePlaces first new
+    → SetsState queue new (reserved_state queue name more) → HasMorePlaces first queue → HasMorePlaces first new
 more_then first queue new name more same sets was = record {
   pairs = λ pair. same pair ∙ was.pairs pair;
   rooms = λ n. room_reserved queue new name n more sets ∙ was.rooms n;
@@ -65,7 +67,7 @@ more_then first queue new name more same sets was = record {
 }
 
 place_kept : (queue new : QueueValue) (book : BookValue) (name n : List ℕ) (more : ℕ)
-    → SetsMark queue new (reserved_mark queue name more)
+    → SetsState queue new (reserved_state queue name more)
     → HasPlaceFor queue book n → HasPlaceFor new book n
 place_kept queue new book name n more sets h = record {
   reserved = is_still_reserved queue new name n more sets h.reserved;
@@ -73,7 +75,7 @@ place_kept queue new book name n more sets h = record {
 }
 
 place_made : (queue new : QueueValue) (book : BookValue) (name : List ℕ)
-    → SetsMark queue new (reserved_mark queue name (pending_in book name + 1)) → HasPlaceFor new book name
+    → SetsState queue new (reserved_state queue name (pending_in book name + 1)) → HasPlaceFor new book name
 place_made queue new book name sets = record {
   reserved = ap is_some (reserved_own queue new name (pending_in book name + 1) sets);
   free = reserved_free queue new name (pending_in book name + 1) sets;
@@ -83,14 +85,15 @@ place_made queue new book name sets = record {
 pub each_then : (queue new : QueueValue) (book : BookValue) (names : List (List ℕ)) (place pending : ℕ)
     (name : List ℕ) → pending ≡ pending_in book name
     → name ≡ get_or names place name → place < length names
-    → SetsMark queue new (reserved_mark queue name (pending + 1))
+    → SetsState queue new (reserved_state queue name (pending + 1))
     → All (HasPlaceFor queue book) (take place names) → All (HasPlaceFor new book) (take (place + 1) names)
 each_then queue new book names place pending name counted is within sets was =
     All-more (HasPlaceFor new book) names place name within
     (All-weaker (HasPlaceFor queue book) (HasPlaceFor new book)
     (λ n. place_kept queue new book name n (pending + 1) sets) (take place names) was)
     (subst (HasPlaceFor new book) is
-    (place_made queue new book name (subst (λ n. SetsMark queue new (reserved_mark queue name (n + 1))) counted sets)))
+    (place_made queue new book name (subst (λ n. SetsState queue new (reserved_state queue name (n + 1))) counted
+    sets)))
 
 -- the desk with more places
 tied_places : {endpoints : endpoint_entries.BookValue} {deliveries : BookValue} {waiting : WaitingValue}
@@ -162,7 +165,7 @@ desk_first : {endpoints : endpoint_entries.BookValue} {deliveries : BookValue} {
     live limiters queue
 desk_first {deliveries = deliveries} {queue = queue} seq name id body at count numbers place h =
     desk_accept seq name id body body at (pending_in deliveries name) count refl refl refl refl numbers (λ pair. refl)
-    (kept_mark queue name (pending_in deliveries name + 1) place) h
+    (kept_lane_state queue name (pending_in deliveries name + 1) place) h
 
 desk_each : {endpoints : endpoint_entries.BookValue} {deliveries : BookValue} {waiting : WaitingValue}
     {live : List Row} {limiters : List Limiter} {queue : QueueValue} (seq : ℕ) (name : List ℕ) (names : List (List ℕ))

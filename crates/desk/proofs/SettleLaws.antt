@@ -12,7 +12,8 @@ use Rattle.desk.proofs.Words.{is_under_way, is_unheld, rises, waits_as, nat_test
 use Rattle.desk.proofs.Words.{find-append, Accept, Outcome, attempts_of, is_gone_status, AreNamedAlike, at_delivery}
 use Rattle.desk.proofs.Words.{at_outcomes, with_outcome, AreTries, endpoint_at, with_attempt, ◌<◌, length, sum_by_push}
 use Rattle.desk.proofs.Words.{MAX_RECORDS, records_of, HasChanges, changes_named, changes_other, new_entry, pending_in}
-use Rattle.desk.proofs.Words.{with_event, all_weaker, HasSamePairs, SetsMark, free_places, reserved_mark, WaitingValue}
+use Rattle.desk.proofs.Words.{with_event, all_weaker, HasSamePairs, SetsState, free_places, reserved_state}
+use Rattle.desk.proofs.Words.{WaitingValue}
 use Rattle.desk.proofs.Words.{record_count, with_step, Limiter, AreTied, is_entry_of, is_idle, is_pair_of, own_pair}
 use Rattle.desk.proofs.Words.{IsDesk, is_pending_of}
 use Rattle.desk.proofs.Words.{HasOneEach, HasSameNames, IsInStep, filter}
@@ -678,7 +679,7 @@ waits_taken book live s name id body at pair above =
     (ap (λ b. (b && (is_open x && not (is_out x.seq live))) && is_pair_of pair x) (le-ltb s book.settled_seq above))
 
 places_taken : (queue new : QueueValue) (book : BookValue) (s : ℕ) (name id body : List ℕ) (at : ℕ)
-    → HasSamePairs queue new → SetsMark queue new (reserved_mark queue name (pending_in book name + 1))
+    → HasSamePairs queue new → SetsState queue new (reserved_state queue name (pending_in book name + 1))
     → HasPlaces queue book
     → HasPlaces new (with_event book s name id body at)
 places_taken queue new book s name id body at same sets places n = by_name name n own other
@@ -707,7 +708,7 @@ places_taken queue new book s name id body at same sets places n = by_name name 
 pub tied_accept : {endpoints : endpoint_entries.BookValue} {deliveries : BookValue} {waiting : WaitingValue}
     {live : List Row} {limiters : List Limiter} {queue new : QueueValue} (s : ℕ) (name id kept body : List ℕ) (at : ℕ)
     → record_count waiting + length live < MAX_RECORDS → deliveries.next_seq ≤ s → deliveries.settled_seq ≤ s
-    → HasSamePairs queue new → SetsMark queue new (reserved_mark queue name (pending_in deliveries name + 1))
+    → HasSamePairs queue new → SetsState queue new (reserved_state queue name (pending_in deliveries name + 1))
     → AreTied endpoints deliveries waiting live limiters queue
     → AreTied endpoints (with_event deliveries s name id kept at) (with_step waiting (Accept name id body at ∷ []))
     live limiters new
@@ -731,7 +732,7 @@ pub desk_accept : {endpoints : endpoint_entries.BookValue} {deliveries taken : B
     → s ≡ record_count waiting → kept ≡ body → taken ≡ with_event deliveries s name id kept at → later
     ≡ with_step waiting (Accept name id body at ∷ []) → pending ≡ pending_in deliveries name
     → record_count waiting + length live < MAX_RECORDS → HasSamePairs queue new
-    → SetsMark queue new (reserved_mark queue name (pending + 1))
+    → SetsState queue new (reserved_state queue name (pending + 1))
     → IsDesk endpoints deliveries waiting live limiters queue → IsDesk endpoints taken later live limiters new
 desk_accept {endpoints} {deliveries} {taken} {waiting} {later} {live} {limiters} {queue} {new} s name id kept body
     at pending count shared is step few numbers same sets h =
@@ -754,4 +755,4 @@ desk_accept {endpoints} {deliveries} {taken} {waiting} {later} {live} {limiters}
     (subst (λ b. AreTied endpoints b (with_step waiting (Accept name id body at ∷ [])) live limiters new) (sym is)
     (tied_accept s name id kept body at numbers (omega (arith, count, h.deliveries_staged))
     (omega (arith, count, h.deliveries_settled)) same
-    (subst (λ n. SetsMark queue new (reserved_mark queue name (n + 1))) few sets) h.tied)))
+    (subst (λ n. SetsState queue new (reserved_state queue name (n + 1))) few sets) h.tied)))

@@ -11,10 +11,11 @@ use Rattle.desk.proofs.Words.{is_status, and_first, and_both, stands-other, Book
 use Rattle.desk.proofs.Words.{with_step, in_flight_of, World, all_records, settled_records, moment, next_seq}
 use Rattle.desk.proofs.Words.{is_exhausted, limit_in, next_attempt, sample_by, sampled, samples_of, spent_by}
 use Rattle.desk.proofs.Words.{with_attempt_over, without_row, AreLimiters, limit_by, samples_at, AreLimits, DeskValue}
-use Rattle.desk.proofs.Words.{StandsFor, attempt_in, is_exhausted_in, with_gone, by_option, Measured, ◌≤◌, take, drop}
+use Rattle.desk.proofs.Words.{StandsFor, attempt_in, is_exhausted_in, with_gone, by_option, EndpointSample, ◌≤◌, take}
+use Rattle.desk.proofs.Words.{drop}
 use Rattle.desk.proofs.Words.{◌&&◌, remove, IfNone, IfSome, IsErr, Result, Ok, Err, nat_lt, take-append_seam, ltb-true}
 use Rattle.desk.proofs.Words.{length-map, list_any, records_of, enabled_in, Change, HasChanges, changes_gone}
-use Rattle.desk.proofs.Words.{changes_other, all_weaker, QueueValue, ChangesMark, IsNew, HasSamePairs, is_reserved}
+use Rattle.desk.proofs.Words.{changes_other, all_weaker, QueueValue, ChangesState, IsNew, HasSamePairs, is_reserved}
 use Rattle.group_commit.proofs.StepLaws.{outcomes_snoc}
 use Rattle.desk.proofs.Words.{with_room, count_by_snoc, is_out, same_row, AreMarked, AreQueued, AreTied}
 use Rattle.desk.proofs.Words.{HasPlaces, HasRoomForAll, Holds, KeepsRooms, endpoint_at, idle_pair, room_by, has_row}
@@ -22,7 +23,7 @@ use Rattle.desk.proofs.Words.{HasOutcome, IsDesk, OverWorlds, Spends, TakesOutco
 use Rattle.desk.proofs.Words.{SpentValue, outcomes_in, status_of}
 use Rattle.retry_table.specs.declared.post.PostResult.{PostResult}
 use Rattle.retry_table.specs.Judging.{measure_of, recorded_status}
-use Rattle.retry_table.specs.declared.post.Measured.{Measured as Told}
+use Rattle.retry_table.specs.declared.post.Measured.{Measured}
 use Rattle.std.proofs.lemmas.List.Elements.{filter-append}
 use Rattle.endpoint_book.proofs.Staged.{stands-gone}
 use Rattle.delivery_book.proofs.Laws.{free_means, stands_outcome}
@@ -52,7 +53,7 @@ abbrev some_limiter : Limiter → Option Limiter
 some_limiter l = Some l
 
 -- what a post with this row tells
-abbrev tells : Row → Told → List Sample
+abbrev tells : Row → Measured → List Sample
 tells row m = sample_of m.rtt row.inflight m.dropped ∷ []
 
 abbrev pub with_estimator : Limiter → EstimatorValue → Limiter
@@ -60,7 +61,7 @@ with_estimator l estimator = record l { estimator = estimator }
 
 -- the limiter at the endpoint's place has one more sample
 pub sampled_at : (ls : List Limiter) (place : ℕ) (l : Limiter) (row : Row) (post : PostResult)
-    → (m : Told) (estimator : EstimatorValue) → Some place ≡ position (is_limiter_of row.endpoint) ls
+    → (m : Measured) (estimator : EstimatorValue) → Some place ≡ position (is_limiter_of row.endpoint) ls
     → l ≡ slice_index_or ls place l → measure_of post ≡ Some m
     → estimator.maximum ≡ (slice_index_or ls place l).estimator.maximum
     → ((xs : List Sample) → StandsForSamples (slice_index_or ls place l).estimator xs
@@ -153,7 +154,8 @@ left_over = over
 -- Samples
 
 sample_at : (row : Row) (post : PostResult) (name : List ℕ)
-    → map (λ (m : Measured). m.sample) (filter (λ (m : Measured). bytes_eq m.endpoint name) (sample_by row post))
+    → map (λ (m : EndpointSample). m.sample) (filter (λ (m : EndpointSample). bytes_eq m.endpoint name)
+    (sample_by row post))
     ≡ samples_at name row post
 sample_at row post name = grind arith
 
@@ -161,9 +163,10 @@ samples_more : (w : World) (row : Row) (post : PostResult) (name : List ℕ)
     → samples_of (record w { measured = w.measured ++ sample_by row post }) name ≡ samples_of w name ++ samples_at name
     row post
 samples_more w row post name =
-    ap (map (λ (m : Measured). m.sample)) (filter-append (λ (m : Measured). bytes_eq m.endpoint name) w.measured
+    ap (map (λ (m : EndpointSample). m.sample))
+    (filter-append (λ (m : EndpointSample). bytes_eq m.endpoint name) w.measured
     (sample_by row post))
-    ∙ map-append (λ (m : Measured). m.sample) _ _
+    ∙ map-append (λ (m : EndpointSample). m.sample) _ _
     ∙ ap (λ more. samples_of w name ++ more) (sample_at row post name)
 
 pub limits_sampled : (d : DeskValue) (w : World) (limiters : List Limiter) (row : Row) (post : PostResult)
@@ -494,7 +497,7 @@ marked_over : (d : DeskValue) (queue held told : QueueValue) (row : Row) (rest :
     (limiters : List Limiter) → AreMarked queue d.endpoints d.limiters d.live → IsLive d row rest
     → KeepsOthers d.limiters limiters row
     → KeepsRooms queue held
-    → ChangesMark held told row.endpoint
+    → ChangesState held told row.endpoint
     (with_room (room_by (disabled d.endpoints (record_count d.waiting) row.endpoint status) limiters rest
     row.endpoint))
     → AreMarked told (disabled d.endpoints (record_count d.waiting) row.endpoint status) limiters rest
@@ -524,7 +527,7 @@ pub tied_over : (d : DeskValue) (queue held told : QueueValue) (row : Row) (rest
     → Holds queue held (idle_pair (tried d.deliveries (record_count d.waiting) row.delivery status at) row.delivery)
     → HasPlaces held (tried d.deliveries (record_count d.waiting) row.delivery status at)
     → HasSamePairs held told
-    → ChangesMark held told row.endpoint
+    → ChangesState held told row.endpoint
     (with_room (room_by (disabled d.endpoints (record_count d.waiting) row.endpoint status) limiters rest
     row.endpoint))
     → AreTied (disabled d.endpoints (record_count d.waiting) row.endpoint status)
@@ -706,7 +709,7 @@ pub is_desk_left : (d m : DeskValue) (queue held told : QueueValue) (row : Row) 
     → IsReturned row d.live rest → IsOver d m row rest post at staged
     → Holds queue held (idle_pair m.deliveries row.delivery) → HasPlaces held m.deliveries
     → HasSamePairs held told
-    → ChangesMark held told row.endpoint (with_room (room_by m.endpoints m.limiters m.live row.endpoint))
+    → ChangesState held told row.endpoint (with_room (room_by m.endpoints m.limiters m.live row.endpoint))
     → IsDesk m.endpoints m.deliveries m.waiting m.live m.limiters told
 is_desk_left d m queue held told row rest post at staged h r over holds places same changes =
     let status = status_of d.halted post in
@@ -722,9 +725,9 @@ is_desk_left d m queue held told row rest post at staged h r over holds places s
     (subst (λ deliveries. Holds queue held (idle_pair deliveries row.delivery)) over.deliveries holds)
     (subst (λ deliveries. HasPlaces held deliveries) over.deliveries places)
     same
-    (subst (λ endpoints. ChangesMark held told row.endpoint
+    (subst (λ endpoints. ChangesState held told row.endpoint
     (with_room (room_by endpoints m.limiters rest row.endpoint))) over.endpoints
-    (subst (λ live. ChangesMark held told row.endpoint (with_room (room_by m.endpoints m.limiters live row.endpoint)))
+    (subst (λ live. ChangesState held told row.endpoint (with_room (room_by m.endpoints m.limiters live row.endpoint)))
     over.live changes)))))))
 
 -- the queue may hold the delivery again

@@ -4,7 +4,7 @@ use Rattle.desk.proofs.Words.{refl, sym, ◌∙◌, ap, arith, not, ◌&&◌, �
 use Rattle.desk.proofs.Words.{is_some, option_map, nat_eq, nat_lt, bytes_eq, if◌then◌else◌, list_all, option_map_or}
 use Rattle.desk.proofs.Words.{eqb-true, list_any-append, sum_by_push, bytes_eq-Decides, MAX_RECORDS, Pending}
 use Rattle.desk.proofs.Words.{is_in_state, and_first, and_second, and_both, enabled_in, Entry, BookValue, entry_at}
-use Rattle.desk.proofs.Words.{is_open, state_in, Row, in_flight_of, is_out, next_row, Pair, QueueValue, ChangesMark}
+use Rattle.desk.proofs.Words.{is_open, state_in, Row, in_flight_of, is_out, next_row, Pair, QueueValue, ChangesState}
 use Rattle.desk.proofs.Words.{HasSamePairs, has_room_in, is_held, is_reserved, pair_of, same_pair, with_room}
 use Rattle.desk.proofs.Words.{record_count, Limiter, AreHeld, AreMarked, AreTied, AreUnderWay, HasPlaces, HasRoomForAll}
 use Rattle.desk.proofs.Words.{LetsGo, LetsPairGo, is_idle, is_pair_of, is_under_way, limit_by, own_pair, pair_in}
@@ -24,17 +24,17 @@ pub holds_rooms : (queue new : QueueValue) (o : Option Pair) → Holds queue new
 holds_rooms queue new None same =
     subst (λ q. KeepsRooms queue q) (sym same) (record { reserved = λ n. refl; rooms = λ n. refl })
 holds_rooms queue new (Some pair) holds = record {
-  reserved = λ n. grind (arith, holds.mark n);
-  rooms = λ n. grind (arith, holds.mark n);
+  reserved = λ n. grind (arith, holds.state n);
+  rooms = λ n. grind (arith, holds.state n);
 }
 
 -- the room of one endpoint is told, and that of the others was right
 pub marked_told : (queue new : QueueValue) (book : endpoint_entries.BookValue) (limiters : List Limiter)
     (live : List Row) (name : List ℕ)
-    → ChangesMark queue new name (with_room (room_by book limiters live name))
+    → ChangesState queue new name (with_room (room_by book limiters live name))
     → ((n : List ℕ) → IsTrue (endpoint_entries.is_known book n) → IsTrue (is_reserved queue n))
     → ((n : List ℕ) → bytes_eq name n ≡ false → IsTrue (is_reserved queue n)
-    → has_room_in queue.marks n ≡ room_by book limiters live n)
+    → has_room_in queue.states n ≡ room_by book limiters live n)
     → IsTrue (list_all (λ row. endpoint_entries.is_known book row.endpoint) live) → AreMarked new book limiters live
 marked_told queue new book limiters live name changes known others rows = record {
   listed = rows;
@@ -57,7 +57,7 @@ places_kept queue new book same keeps places = λ n.
     omega (arith, counted, keeps n, places n)
 
 pub places_told : (queue new : QueueValue) (book : BookValue) (name : List ℕ) (room : Bool) → HasSamePairs queue new
-    → ChangesMark queue new name (with_room room) → HasPlaces queue book → HasPlaces new book
+    → ChangesState queue new name (with_room room) → HasPlaces queue book → HasPlaces new book
 places_told queue new book name room same changes places =
     places_kept queue new book same (λ n. grind (arith, changes n)) places
 
@@ -145,30 +145,30 @@ pub still_reserved : {d : DeskValue} {queue : QueueValue} (gone : QueueValue) (n
 still_reserved {d} {queue} gone name s tied from lets =
     let own = lets_own queue gone name s tied.queued.held from lets in
     let known = tied.marked.known name (endpoint_known name s tied.limited from) in
-    grind (arith, own.1.mark name, known)
+    grind (arith, own.1.state name, known)
 
 -- the desk once an attempt at the delivery is under way
 pub desk_started : {d : DeskValue} {queue : QueueValue} (gone new : QueueValue) (name : List ℕ) (s : ℕ)
     (live : List Row) → IsDesk d.endpoints d.deliveries d.waiting d.live d.limiters queue → StartsFrom d name s
     → record_count d.waiting + length d.live < MAX_RECORDS → live ≡ d.live ++ next_row name s d.live ∷ []
     → LetsGo queue gone (pair_in d.deliveries s) → HasPlaces gone d.deliveries
-    → HasSamePairs gone new → ChangesMark gone new name (with_room (room_by d.endpoints d.limiters live name))
+    → HasSamePairs gone new → ChangesState gone new name (with_room (room_by d.endpoints d.limiters live name))
     → IsDesk d.endpoints d.deliveries d.waiting live d.limiters new
 desk_started {d} {queue} gone new name s live h from numbers is lets places same told =
     let known = endpoint_known name s tied.limited from in
     let listed =
     all_more (λ (r : Row). endpoint_entries.is_known d.endpoints r.endpoint) d.live row tied.marked.listed known in
     let told_room =
-    subst (λ rows. ChangesMark gone new name (with_room (room_by d.endpoints d.limiters rows name))) is told in
+    subst (λ rows. ChangesState gone new name (with_room (room_by d.endpoints d.limiters rows name))) is told in
     let held = held_started name s own.0 row from refl own.2 own.1 tied.queued.held in
     assumption (subst (λ rows. AreTied d.endpoints d.deliveries d.waiting rows d.limiters new) (sym is) (record {
       limited = tied.limited;
       room = room_started name s row from numbers;
       marked = marked_told gone new d.endpoints d.limiters more name told_room
-          (λ n k. grind (arith, own.1.mark n, tied.marked.known n k))
+          (λ n k. grind (arith, own.1.state n, tied.marked.known n k))
           (λ n other there.
           let as_before = same_room n other in
-          grind (arith, own.1.mark n, tied.marked.rooms n, there, as_before)) listed;
+          grind (arith, own.1.state n, tied.marked.rooms n, there, as_before)) listed;
       queued = record {
         apart = tied.queued.apart;
         under_way = under_way_started name s row from refl refl tied.queued.under_way;

@@ -79,9 +79,11 @@ pub use Rattle.group_commit.specs.Waits.{with_nothing_out, with_step}
 pub use Rattle.group_commit.specs.declared.limits.TheConstants.{MAX_WAITING_OUTCOMES, MAX_WAITING_REQUESTS}
 pub use Rattle.permits.specs.Rows.{in_flight_of, is_out, next_row, same_row}
 pub use Rattle.permits.specs.declared.row.Row.{Row}
-pub use Rattle.claim_queue.specs.Queues.{ChangesMark, HasSamePairs, IsNew, IsNext, NothingIsReady, QueueValue, SetsMark}
-pub use Rattle.claim_queue.specs.Queues.{empty_queue, free_places, has_room_in, is_held, is_ready, is_reserved, mark_in}
-pub use Rattle.claim_queue.specs.Queues.{mark_of, pair_of, reserved_mark, same_pair, with_room}
+pub use Rattle.claim_queue.specs.Queues.{ChangesState, HasSamePairs, IsNew, IsNext, NothingIsReady, QueueValue}
+pub use Rattle.claim_queue.specs.Queues.{SetsState}
+pub use Rattle.claim_queue.specs.Queues.{empty_queue, free_places, has_room_in, is_held, is_ready, is_reserved}
+pub use Rattle.claim_queue.specs.Queues.{lane_state_in}
+pub use Rattle.claim_queue.specs.Queues.{lane_state_of, pair_of, reserved_state, same_pair, with_room}
 pub use Rattle.claim_queue.specs.declared.pairs.Pair.{Pair}
 pub use Rattle.desk.proofs.Cases.{by_bool, by_option}
 pub use Rattle.desk.specs.Claims.{JobValue, choice, claim, claim_chosen, claimables, has_place as has_place_in}
@@ -113,6 +115,6 @@ pub use Rattle.desk.specs.Ties.{LetsGo, LetsPairGo, StandsAt, StandsBy, bound_by
 pub use Rattle.desk.specs.Ties.{is_entry_of, is_idle, is_limiter_of, is_own, is_pair_of, is_told, is_under_way}
 pub use Rattle.desk.specs.Ties.{is_unheld, limit_by, limiter_of, new_limiter, own_pair, pair_in, rises, room_by}
 pub use Rattle.desk.specs.Ties.{row_if_settled, samples_at, waits_as}
-pub use Rattle.desk.specs.World.{Measured, World, all_records, sealed_records, settled_records, waiting_records}
+pub use Rattle.desk.specs.World.{EndpointSample, World, all_records, sealed_records, settled_records, waiting_records}
 pub use Rattle.desk.specs.declared.limiter.Limiter.{Limiter}
 pub use Rattle.desk.specs.declared.refusal.Refusal.{Refusal}

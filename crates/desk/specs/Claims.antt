@@ -13,14 +13,14 @@ use Rattle.vegas.specs.declared.sample.Sample.{Sample}
 use Rattle.vegas.specs.Vegas.{limit_of, noload_of}
 use Rattle.permits.specs.declared.row.Row.{Row}
 use Rattle.permits.specs.Rows.{in_flight_of, is_out, next_row, same_row}
-use Rattle.retry_table.specs.declared.post.Measured.{Measured as Told}
+use Rattle.retry_table.specs.declared.post.Measured.{Measured}
 use Rattle.retry_table.specs.declared.post.PostResult.{PostResult}
 use Rattle.retry_table.specs.Judging.{recorded_status, measure_of}
 use Rattle.group_commit.specs.declared.limits.TheConstants.{MAX_WAITING_OUTCOMES}
 use Rattle.group_commit.specs.Steps.{outcomes_in}
 use Rattle.desk.specs.declared.refusal.Fault.TheVariants as fault
 use Rattle.desk.specs.declared.spent.Limits.{Limits}
-use Rattle.desk.specs.World.{World, Measured, all_records, settled_records, waiting_records}
+use Rattle.desk.specs.World.{World, EndpointSample, all_records, settled_records, waiting_records}
 use Rattle.desk.specs.Moves.{Answer, gives, unless, or_out_of_memory, moment, next_seq, are_seqs_spent}
 
 -- Attempts that are under way, and what waits
@@ -190,14 +190,14 @@ abbrev pub without_row : (w : World) (row : Row) → World
 without_row w row = record w { live = filter (λ other. not (same_row row other)) w.live }
 
 -- the sample of a post with this row
-abbrev pub sampled : (row : Row) → Told → Measured
+abbrev pub sampled : (row : Row) → Measured → EndpointSample
 sampled row told = record {
   endpoint = row.endpoint;
   sample = record { rtt = told.rtt; inflight = row.inflight; dropped = told.dropped };
 }
 
 -- what the post tells of the endpoint's speed: nothing where its permit is spent as ignored
-abbrev pub sample_by : (row : Row) (post : PostResult) → List Measured
+abbrev pub sample_by : (row : Row) (post : PostResult) → List EndpointSample
 sample_by row post = option_map_or (λ told. sampled row told ∷ []) (measure_of post) []
 
 -- the step of the outcome, where a status is recorded

@@ -25,7 +25,7 @@ use Rattle.delivery_book.specs.declared.entry.Unsettled.{Unsettled}
 use Rattle.delivery_book.specs.declared.row.Row.{Row as BookRow}
 use Rattle.delivery_book.specs.Entries.{entry_at, is_open, row_in, state_in, settled_row, takes_outcome}
 use Rattle.claim_queue.specs.declared.pairs.Pair.{Pair}
-use Rattle.claim_queue.specs.Queues.{QueueValue, Gains, Loses, ChangesMark, place_taken, place_given, pair_of, is_held}
+use Rattle.claim_queue.specs.Queues.{QueueValue, Gains, Loses, ChangesState, place_taken, place_given, pair_of, is_held}
 use Rattle.claim_queue.specs.Queues.{is_reserved, has_room_in, free_places}
 use Rattle.group_commit.specs.declared.limits.TheConstants.{MAX_WAITING_OUTCOMES}
 use Rattle.group_commit.specs.Steps.{outcomes_in}
@@ -99,7 +99,7 @@ pub record AreMarked (queue : QueueValue) (book : endpoint_entries.BookValue) (l
   pub listed : IsTrue (list_all (λ row. endpoint_entries.is_known book row.endpoint) live)
   pub known : (name : Text) → IsTrue (endpoint_entries.is_known book name) → IsTrue (is_reserved queue name)
   pub rooms : (name : Text) → IsTrue (is_reserved queue name)
-      → has_room_in queue.marks name ≡ room_by book limiters live name
+      → has_room_in queue.states name ≡ room_by book limiters live name
 
 -- Attempts
 
@@ -201,7 +201,7 @@ idle_pair book d = if takes_outcome book d then pair_in book d else None
 -- the pair is held from now on, in a place of its endpoint; where there is none, nothing changes
 pub record HoldsPair (old new : QueueValue) (pair : Pair) : Type 0 where
   pub pairs : Gains old new pair
-  pub mark : ChangesMark old new pair.endpoint place_taken
+  pub state : ChangesState old new pair.endpoint place_taken
 
 abbrev pub Holds : (old new : QueueValue) → Option Pair → Type 0
 Holds old new None = new ≡ old
@@ -210,21 +210,21 @@ Holds old new (Some pair) = HoldsPair old new pair
 -- the pair is held no more, and its place is free; where there is none, nothing changes
 pub record LetsPairGo (old new : QueueValue) (pair : Pair) : Type 0 where
   pub pairs : Loses old new pair
-  pub mark : ChangesMark old new pair.endpoint place_given
+  pub state : ChangesState old new pair.endpoint place_given
   pub place : free_places new pair.endpoint ≡ free_places old pair.endpoint + 1
 
 abbrev pub LetsGo : (old new : QueueValue) → Option Pair → Type 0
 LetsGo old new None = new ≡ old
 LetsGo old new (Some pair) = LetsPairGo old new pair
 
--- the same endpoints have marks, and the same of them have room
+-- the same endpoints are in the queue, and the same of them have room
 pub record KeepsRooms (old new : QueueValue) : Type 0 where
   pub reserved : (name : Text) → is_reserved new name ≡ is_reserved old name
-  pub rooms : (name : Text) → has_room_in new.marks name ≡ has_room_in old.marks name
+  pub rooms : (name : Text) → has_room_in new.states name ≡ has_room_in old.states name
 
 -- the same endpoints have room, and each has as many free places at least
 abbrev pub HasSameRooms : (old new : QueueValue) → Type 0
-HasSameRooms old new = (name : Text) → has_room_in new.marks name ≡ has_room_in old.marks name
+HasSameRooms old new = (name : Text) → has_room_in new.states name ≡ has_room_in old.states name
 
 abbrev pub KeepsPlaces : (old new : QueueValue) → Type 0
 KeepsPlaces old new = (name : Text) → free_places old name ≤ free_places new name

@@ -97,7 +97,7 @@ fn update_rooms<L: Ledger>(
 ) -> Result<(), AllocError>
     requires none_out { pool.now ≡ [] }
     requires limited { AreLimiters limiters.now endpoints.now }
-    requires untold { (name : List ℕ) → has_room_in queue.old.marks name ≡ false }
+    requires untold { (name : List ℕ) → has_room_in queue.old.states name ≡ false }
     ensures pairs { OnOk result (HasSamePairs queue.old queue.new) }
     ensures places { OnOk result (KeepsPlaces queue.old queue.new) }
     ensures marked { OnOk result (AreMarked queue.new endpoints.now limiters.now []) }

@@ -3,7 +3,7 @@ ghost use Rattle.std.specs.Prelude.{◌≡◌, ◌<◌, ◌≤◌, ◌+◌, ◌-
 ghost use Rattle.relay_types.specs.declared.limits.TheConstants.{MAX_RECORDS};
 ghost use Rattle.relay_types.specs.declared.record.Record.{Record};
 ghost use Rattle.permits.specs.declared.row.Row.{Row};
-ghost use Rattle.claim_queue.specs.Queues.{ChangesMark, HasSamePairs, IsNew, is_held, is_reserved, pair_of, with_room};
+ghost use Rattle.claim_queue.specs.Queues.{ChangesState, HasSamePairs, IsNew, is_held, is_reserved, pair_of, with_room};
 ghost use Rattle.delivery_book.specs.Book.{Settles};
 ghost use Rattle.delivery_book.specs.Entries.{HasOneEach, with_settled};
 ghost use Rattle.delivery_book.specs.Waiting.{HasWaiting};
@@ -67,7 +67,7 @@ pub(crate) fn update_room<L: Ledger>(
 )
     requires { IsTrue (is_reserved queue.old endpoint) }
     ensures pairs { HasSamePairs queue.old queue.new }
-    ensures mark { ChangesMark queue.old queue.new endpoint
+    ensures state { ChangesState queue.old queue.new endpoint
         (with_room (room_by endpoints.now limiters.now pool.now endpoint)) }
 {
     let room = endpoints.is_enabled(endpoint)

@@ -6,23 +6,23 @@ mod asking;
 mod desks;
 mod failed;
 mod given;
-mod growing;
-mod growing_books;
-mod growing_desks;
-mod growing_makes;
-mod growing_replies;
-mod growing_shares;
-mod growing_stores;
-mod growing_texts;
 mod loading;
 mod moves;
+mod oom;
+mod oom_books;
+mod oom_desks;
+mod oom_makes;
+mod oom_replies;
+mod oom_shares;
+mod oom_stores;
+mod oom_texts;
 mod opening;
 mod relay;
 mod running;
 
-use crate::growing::print_growths;
 use crate::loading::print_loads;
 use crate::moves::print_moves;
+use crate::oom::print_oom;
 use crate::opening::print_opening;
 use crate::relay::answer_asks;
 use crate::running::print_runs;
@@ -36,7 +36,7 @@ const LIST: &str = "replay PATH        the script on standard input
 runs PATH          a run of calls, and a second one where the first had no memory
 loads PATH         two loads of a store that stands
 open PATH          the store in the file, made where none stands
-growths CALL       a call that takes memory, twice, each time at a byte of standard input; or the opening of the file at a path
+oom CALL           a call that takes memory, twice, each time at a byte of standard input; or the opening of the file at a path
 asks               the requests on standard input, one on a line
 moves SEED COUNT   so many random moves of the claim queue
 ";
@@ -90,7 +90,7 @@ fn run_words<R: Wait>(rt: &HostRuntime, wait: &R, words: &[&str]) -> io::Result<
             Ok(true)
         }
         [_, "asks"] => Ok(answer_asks(rt.alloc(), &mut rt.stdin(), &mut rt.stdout())),
-        [_, "growths", word] => print_growths(rt, wait, word),
+        [_, "oom", word] => print_oom(rt, wait, word),
         [_, "loads", path] => run_over(rt, Run::Loads, path),
         [_, "open", path] => print_opening(rt, path),
         [_, "replay", path] => run_over(rt, Run::Replay, path),

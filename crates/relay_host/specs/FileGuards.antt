@@ -25,14 +25,14 @@ pub record IsPlaceOf {F File Dir : Type 0} (path : List ℕ) (place : FilePlace 
 
 -- The paths stay the same. What is known of the file and of its log stays known. A look that found
 -- something out makes the file known. One that didn't changes nothing.
-pub record IsCheckOf {F File Dir : Type 0} (old new : FilePlace F File Dir) (sight : FileCheck) : Type 0 where
+pub record IsCheckOf {F File Dir : Type 0} (old new : FilePlace F File Dir) (check : FileCheck) : Type 0 where
   pub file_path : new.path ≡ old.path
   pub log_path : new.log_path ≡ old.log_path
-  pub known : SawNothing sight ⊎ IsTrue new.is_known
+  pub known : SawNothing check ⊎ IsTrue new.is_known
   pub file : IsTrue old.is_known → new.file ≡ old.file
   pub log : IsSome old.log → new.log ≡ old.log
-  pub stands : sight ≡ Stands → IsTrue new.is_known × IsSome new.file
-  pub blind : SawNothing sight → new ≡ old
+  pub stands : check ≡ Stands → IsTrue new.is_known × IsSome new.file
+  pub blind : SawNothing check → new ≡ old
 
 -- Why a batch is handed back if a look finds this. It isn't if the file is there.
 abbrev pub refusal_at : FileCheck → Option Unchanged
@@ -50,5 +50,5 @@ module _ {K P : Type 0} where
   place_of guard = guard.place
 
   -- what the last look found
-  abbrev pub sight_of : FileGuard K P → FileCheck
-  sight_of guard = guard.sight
+  abbrev pub last_check_of : FileGuard K P → FileCheck
+  last_check_of guard = guard.last_check

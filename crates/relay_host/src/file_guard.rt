@@ -3,7 +3,7 @@ ghost use Rattle.std.specs.Prelude.{◌≡◌, ◌⊎◌, ◌↔◌, false, Some
 ghost use Rattle.spool.specs.Commits.{HandsBack, IsDoubt};
 ghost use Rattle.spool.specs.declared.faults.Unchanged.{Unchanged};
 ghost use Rattle.delivery.specs.Keepers.{AdvancesNext, HistoryAfterCommit};
-ghost use Rattle.relay_host.specs.FileGuards.{keeper_of, place_of, refusal_at, sight_of};
+ghost use Rattle.relay_host.specs.FileGuards.{keeper_of, place_of, refusal_at, last_check_of};
 
 use crate::place::{FileCheck, Place};
 use delivery::Keeper;
@@ -15,7 +15,7 @@ use spool::{Batch, CommitEnd, Receipt, Unchanged};
 pub struct FileGuard<K: Keeper + Drop, P: Place + Drop> {
     keeper: K,
     place: P,
-    sight: FileCheck,
+    last_check: FileCheck,
 }
 
 impl<K: Keeper + Drop, P: Place + Drop> FileGuard<K, P> {
@@ -23,12 +23,12 @@ impl<K: Keeper + Drop, P: Place + Drop> FileGuard<K, P> {
     pub fn new(keeper: K, place: P) -> FileGuard<K, P>
         ensures keeper { keeper_of result ≡ keeper }
         ensures place { place_of result ≡ place }
-        ensures sight { sight_of result ≡ FileCheck.Stands }
+        ensures check { last_check_of result ≡ FileCheck.Stands }
     {
         FileGuard {
             keeper,
             place,
-            sight: FileCheck::Stands,
+            last_check: FileCheck::Stands,
         }
     }
 
@@ -40,18 +40,18 @@ impl<K: Keeper + Drop, P: Place + Drop> FileGuard<K, P> {
     }
 
     /// What the last look found; before the first one, that the file is there.
-    pub fn sight(&self) -> FileCheck
-        ensures { result ≡ sight_of self.now }
+    pub fn last_check(&self) -> FileCheck
+        ensures { result ≡ last_check_of self.now }
     {
-        self.sight
+        self.last_check
     }
 }
 
 // Why a batch is handed back if a look finds this.
-fn refusal_at(sight: FileCheck) -> Option<Unchanged>
-    ensures { result ≡ refusal_at sight }
+fn refusal_at(check: FileCheck) -> Option<Unchanged>
+    ensures { result ≡ refusal_at check }
 {
-    match sight {
+    match check {
         FileCheck::Stands => None,
         FileCheck::Gone | FileCheck::Unseen => Some(Unchanged::OutOfTurn),
         FileCheck::OutOfMemory => Some(Unchanged::OutOfMemory),
@@ -81,15 +81,15 @@ impl<K: Keeper + Drop, P: Place + Drop> Keeper for FileGuard<K, P> {
         ensures history { K.is_clean (keeper_of self.new)
             → HistoryAfterCommit K.holds K.in_doubt (keeper_of self.old) (keeper_of self.new) batch result }
         ensures looked { K.closed (keeper_of self.old) ≡ false
-            → P.finds (place_of self.old) (place_of self.new) (sight_of self.new) }
+            → P.finds (place_of self.old) (place_of self.new) (last_check_of self.new) }
         ensures refused { K.closed (keeper_of self.old) ≡ false → (why : Unchanged)
-            → refusal_at (sight_of self.new) ≡ Some why → result ≡ Err (CommitEnd.Unchanged batch why) }
+            → refusal_at (last_check_of self.new) ≡ Some why → result ≡ Err (CommitEnd.Unchanged batch why) }
     {
         if self.keeper.is_closed() {
             return self.keeper.commit(batch);
         }
-        self.sight = self.place.look();
-        match refusal_at(self.sight) {
+        self.last_check = self.place.look();
+        match refusal_at(self.last_check) {
             Some(why) => Err(CommitEnd::Unchanged(batch, why)),
             None => self.keeper.commit(batch),
         }

@@ -80,7 +80,7 @@ impl<'a, F: Files + Clock> FilePlace<'a, F> {
     /// Takes what is there now for what was opened. If it can't be seen, the next look takes it. It
     /// changes the same as a look.
     pub fn remember(&mut self)
-        ensures { (sight : FileCheck) × IsCheckOf self.old self.new sight }
+        ensures { (check : FileCheck) × IsCheckOf self.old self.new check }
     {
         let _seen = self.look();
     }
@@ -138,7 +138,7 @@ impl<F: Files + Clock> Place for FilePlace<'_, F> {
         for _ in 1..LOOKS {
             match self.glance() {
                 FileCheck::Unseen => thread::sleep(self.files, Duration::from_millis(PAUSE_MILLIS)),
-                sight => return sight,
+                check => return check,
             }
         }
         self.glance()
@@ -147,7 +147,7 @@ impl<F: Files + Clock> Place for FilePlace<'_, F> {
 
 // Which file is at the path, if one is, or why that can't be found out.
 fn node_at<F: Files>(files: &F, path: &str) -> Result<Option<Node>, FileCheck>
-    ensures { IfErr result (λ sight. (sight ≡ FileCheck.Unseen) ⊎ (sight ≡ FileCheck.OutOfMemory)) }
+    ensures { IfErr result (λ check. (check ≡ FileCheck.Unseen) ⊎ (check ≡ FileCheck.OutOfMemory)) }
 {
     match fs::metadata(files, path) {
         Ok(found) => Ok(Some(Node {

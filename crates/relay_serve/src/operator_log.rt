@@ -36,7 +36,7 @@ pub(crate) enum LogLine<'a> {
     /// turn.
     Halted {
         cause: HaltCause,
-        sight: FileCheck,
+        check: FileCheck,
     },
     /// The greatest number of an event that was acknowledged while it served.
     Acknowledged(u64),
@@ -77,8 +77,8 @@ impl fmt::Display for LogLine<'_> {
                     "exhausted: event {id} of endpoint {name}, after {MAX_FAILURES} failures"
                 )
             }
-            LogLine::Halted { cause, sight } => {
-                write!(f, "halted: {}", halt_text(*cause, *sight))
+            LogLine::Halted { cause, check } => {
+                write!(f, "halted: {}", halt_text(*cause, *check))
             }
             LogLine::Acknowledged(seq) => write!(f, "acknowledged: up to record {seq}"),
         }
@@ -102,12 +102,12 @@ fn id_of(request: &Outgoing) -> &str {
 
 /// Why the committer gave up, as the operator reads it, by what the last look at the file found. A
 /// batch is also out of turn if the file is gone or can't be looked at.
-pub fn halt_text(cause: HaltCause, sight: FileCheck) -> &'static str {
+pub fn halt_text(cause: HaltCause, check: FileCheck) -> &'static str {
     match cause {
         HaltCause::Halted => "the relay had halted before",
         HaltCause::OutOfMemory => "out of memory nine times in a row",
         HaltCause::Closed => "the result of an earlier commit is unknown",
-        HaltCause::OutOfTurn => match sight {
+        HaltCause::OutOfTurn => match check {
             FileCheck::Gone => "the file isn't the one that was opened",
             FileCheck::Unseen => "the file can't be looked at",
             FileCheck::Stands | FileCheck::OutOfMemory => "a batch was out of turn",

@@ -225,9 +225,9 @@ where
     let (mut logged, end) = run_threads(rt, listener, bound, &relay, logged, settings);
     let acknowledged = last_acknowledged(rt, &relay, &mut logged);
     let keeper = logged.into_keeper();
-    let sight = keeper.sight();
+    let check = keeper.last_check();
     let mut vault = keeper.into_keeper();
-    let ended = report_end(rt, &relay, end, sight, &mut vault);
+    let ended = report_end(rt, &relay, end, check, &mut vault);
     (vault, ended, acknowledged)
 }
 
@@ -262,7 +262,7 @@ fn report_end<L, I, S, R>(
     rt: &R,
     relay: &Relay<L, I>,
     end: Ended,
-    sight: FileCheck,
+    check: FileCheck,
     vault: &mut Vault<S>,
 ) -> Result<Served, ServeFault>
 where
@@ -277,7 +277,7 @@ where
 {
     match end.how() {
         CommitterEnd::Halted(cause) => {
-            print_log_line(rt, rt.alloc(), &LogLine::Halted { cause, sight });
+            print_log_line(rt, rt.alloc(), &LogLine::Halted { cause, check });
             Err(ServeFault::Halted(cause))
         }
         CommitterEnd::Finished if relay.lacks_thread() => Err(ServeFault::NoThread),

@@ -14,7 +14,7 @@ pub enum PostResult {
     TimedOut { rtt: u64 },
     /// There was no connection, or it ended or failed before a status came.
     Unreached,
-    /// The post was refused on this side, as for want of memory, and nothing was sent.
+    /// The post was refused on this side, for example because memory ran out, and nothing was sent.
     Unsent,
 }
 

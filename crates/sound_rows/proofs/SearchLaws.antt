@@ -7,7 +7,7 @@ use Rattle.std.proofs.lemmas.Bool.{ne_eqb, cases_eq, cases_lt, and_left, and_rig
 use Rattle.std.proofs.lemmas.List.Folds.{list_any_at, list_any_none}
 use Rattle.std.proofs.lemmas.List.Sorted.{IsPartitionedBy-ltb}
 use Rattle.relay_types.specs.Sound.{IsRisingFrom}
-use Rattle.sound_rows.specs.Numbers.{IsAscending, FirstBelow, RestFrom}
+use Rattle.sound_rows.specs.RowNumbers.{IsAscending, FirstBelow, RestFrom}
 
 -- what none passes isn't found
 pub none_at : {X : Type 0} (p q : X → Bool) (xs : List X) → ((x : X) → q x ≡ false)

@@ -17,9 +17,9 @@ use Rattle.sound_rows.specs.declared.numbers.Endpoint.{Endpoint}
 use Rattle.sound_rows.specs.declared.numbers.Delivery.{Delivery}
 use Rattle.sound_rows.specs.declared.numbers.Attempt.{Attempt}
 use Rattle.sound_rows.specs.declared.numbers.Topic.{Topic}
-use Rattle.sound_rows.specs.declared.numbers.Numbers.{Numbers}
-use Rattle.sound_rows.specs.Numbers.{Kept, numbers_of, of_endpoint, of_delivery, of_attempt, of_topic, AreAscending}
-use Rattle.sound_rows.specs.Numbers.{AreNumbersOf, AreValues}
+use Rattle.sound_rows.specs.declared.numbers.RowNumbers.{RowNumbers}
+use Rattle.sound_rows.specs.RowNumbers.{Kept, numbers_of, of_endpoint, of_delivery, of_attempt, of_topic, AreAscending}
+use Rattle.sound_rows.specs.RowNumbers.{AreNumbersOf, AreValues}
 use Rattle.sound_rows.specs.Checks.{are_below, is_put, is_delivery, is_attempt, is_topic, is_taken, are_apart}
 use Rattle.sound_rows.specs.Checks.{is_secrets_place, is_gone_attempt, is_flag_given, are_flag_places, are_behind}
 use Rattle.sound_rows.specs.Checks.{are_topics_placed, before, is_turn, are_numbers_sound}
@@ -300,7 +300,7 @@ module _ (all : Rows) where
   }
 
 -- what is answered of the numbers is so of all rows that have them
-pub told_of_rows : {E : Type 0} (numbers : Numbers) (r : Result Bool E) (x : Bool) → IfOk r (λ answer. answer ≡ x)
+pub told_of_rows : {E : Type 0} (numbers : RowNumbers) (r : Result Bool E) (x : Bool) → IfOk r (λ answer. answer ≡ x)
     → ((all : Rows) → AreNumbersOf numbers all → rows.AreKeyed all → AreValues all → x ≡ rows.are_sound all)
     → IfOk r (λ answer. (all : Rows) → AreNumbersOf numbers all → rows.AreKeyed all → AreValues all
     → answer ≡ rows.are_sound all)

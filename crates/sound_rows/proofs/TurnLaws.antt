@@ -15,7 +15,7 @@ use Rattle.std.proofs.lemmas.List.Sums.{sum_by-append}
 use Rattle.relay_types.specs.Judging.{is_delivered_status, is_failed_status}
 use Rattle.sound_rows.specs.declared.numbers.Attempt.{Attempt}
 use Rattle.sound_rows.specs.declared.turns.Progress.{Progress}
-use Rattle.sound_rows.specs.Numbers.{IsAscending}
+use Rattle.sound_rows.specs.RowNumbers.{IsAscending}
 use Rattle.sound_rows.specs.Checks.{after_status, before, is_turn, may_come, no_progress, progress_of}
 
 -- Numbers from one on

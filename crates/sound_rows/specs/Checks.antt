@@ -7,7 +7,7 @@ use Rattle.relay_types.specs.Judging.{is_delivered_status, is_gone_status, is_fa
 use Rattle.relay_types.specs.Legal.{is_status}
 use Rattle.sound_rows.specs.declared.numbers.Endpoint.{Endpoint}
 use Rattle.sound_rows.specs.declared.numbers.Attempt.{Attempt}
-use Rattle.sound_rows.specs.Numbers.{Kept}
+use Rattle.sound_rows.specs.RowNumbers.{Kept}
 use Rattle.sound_rows.specs.declared.turns.Progress.{Progress}
 
 abbrev pub are_below : Kept → Bool

@@ -1,13 +1,13 @@
 //! Whether no number is that of two kinds of records.
 ghost use Rattle.std.specs.Prelude.{◌≡◌, ◌||◌, not};
-ghost use Rattle.sound_rows.specs.Numbers.{AreAscending, kept};
+ghost use Rattle.sound_rows.specs.RowNumbers.{AreAscending, kept};
 ghost use Rattle.sound_rows.specs.Checks.{are_apart, are_attempts_apart, are_deliveries_apart, are_puts_apart};
 ghost use Rattle.sound_rows.specs.Checks.{is_attempt, is_delivery, is_put, is_taken, is_topic};
 
-use crate::numbers::Numbers;
+use crate::numbers::RowNumbers;
 use crate::search::{has_attempt, has_delivery, has_topic};
 
-impl Numbers {
+impl RowNumbers {
     // Whether an endpoint was put at this number.
     fn is_put(&self, number: u64) -> bool
         ensures { result ≡ is_put (kept self.now) number }

@@ -1,13 +1,13 @@
 //! Whether each number is below the number of records.
 ghost use Rattle.std.specs.Prelude.{◌≡◌, ◌&&◌, nat_lt};
 ghost use Rattle.std.specs.List.{list_all};
-ghost use Rattle.sound_rows.specs.Numbers.{kept};
+ghost use Rattle.sound_rows.specs.RowNumbers.{kept};
 ghost use Rattle.sound_rows.specs.Checks.{are_below};
 
-use crate::numbers::{Attempt, Delivery, Endpoint, Numbers, Topic};
+use crate::numbers::{Attempt, Delivery, Endpoint, RowNumbers, Topic};
 use relay_types::MAX_RECORDS;
 
-impl Numbers {
+impl RowNumbers {
     // Whether each number is below the number of records, and these aren't too many.
     pub(crate) fn are_below(&self) -> bool
         ensures { result ≡ are_below (kept self.now) }

@@ -11,4 +11,4 @@ mod search;
 mod sound;
 mod turns;
 
-pub use crate::numbers::{Attempt, Delivery, Endpoint, Numbers, Topic};
+pub use crate::numbers::{Attempt, Delivery, Endpoint, RowNumbers, Topic};

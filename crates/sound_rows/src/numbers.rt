@@ -38,7 +38,7 @@ pub struct Topic {
 /// What the tables tell of the numbers of a history: how many records it has, and the numbers in the rows of each
 /// table, in the order of their keys, but for topics in that of the records that decide them.
 #[derive(Drop)]
-pub struct Numbers {
+pub struct RowNumbers {
     pub records: u64,
     pub endpoints: Vec<Endpoint>,
     pub deliveries: Vec<Delivery>,

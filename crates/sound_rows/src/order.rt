@@ -1,10 +1,10 @@
 //! Whether rows stand in the order of their numbers.
 ghost use Rattle.std.specs.Prelude.{◌↔◌, IsTrue};
-ghost use Rattle.sound_rows.specs.Numbers.{AreAscending, IsAscending, kept};
+ghost use Rattle.sound_rows.specs.RowNumbers.{AreAscending, IsAscending, kept};
 
-use crate::numbers::{Attempt, Delivery, Numbers, Topic};
+use crate::numbers::{Attempt, Delivery, RowNumbers, Topic};
 
-impl Numbers {
+impl RowNumbers {
     // Whether the events, the attempts and the topics stand in the order of their numbers.
     pub(crate) fn are_ascending(&self) -> bool
         ensures { IsTrue result ↔ AreAscending (kept self.now) }

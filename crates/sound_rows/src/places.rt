@@ -1,16 +1,16 @@
 //! Whether the secrets and the flag of an endpoint are those of a record that may have given them.
 ghost use Rattle.std.specs.Prelude.{◌≡◌, ◌==◌, ◌&&◌, nat_lt, not};
 ghost use Rattle.std.specs.List.{list_any, list_all};
-ghost use Rattle.sound_rows.specs.Numbers.{AreAscending, kept};
+ghost use Rattle.sound_rows.specs.RowNumbers.{AreAscending, kept};
 ghost use Rattle.sound_rows.specs.Checks.{are_behind, are_flag_places, are_topics_placed, have_places, is_flag_command};
 ghost use Rattle.sound_rows.specs.Checks.{is_flag_given, is_gone_attempt, is_overlooked, is_secrets_place};
 
-use crate::numbers::{Attempt, Delivery, Endpoint, Numbers};
+use crate::numbers::{Attempt, Delivery, Endpoint, RowNumbers};
 use crate::search::{is_delivery_of, place_of_attempt, place_of_delivery};
 use relay_types::{MAX_ENDPOINTS, MAX_SUBSCRIPTIONS};
 use retry_table::is_gone;
 
-impl Numbers {
+impl RowNumbers {
     // Whether the rows of endpoints, events and topics may stand where they do, beside what comes of the events.
     pub(crate) fn have_places(&self) -> bool
         requires { AreAscending (kept self.now) }

@@ -1,7 +1,7 @@
 //! Where a row stands whose number is asked for, by halves.
 ghost use Rattle.std.specs.Prelude.{◌≡◌, ◌==◌, ◌&&◌};
 ghost use Rattle.std.specs.List.{list_any};
-ghost use Rattle.sound_rows.specs.Numbers.{FirstBelow, IsAscending, RestFrom};
+ghost use Rattle.sound_rows.specs.RowNumbers.{FirstBelow, IsAscending, RestFrom};
 
 use crate::numbers::{Attempt, Delivery, Topic};
 

@@ -2,13 +2,13 @@
 ghost use Rattle.std.specs.Prelude.{◌≡◌, false, IfOk};
 ghost use Rattle.relay_types.specs.Rows.{Rows};
 ghost use Rattle.relay_types.specs.Sound.{AreKeyed, are_sound};
-ghost use Rattle.sound_rows.specs.Numbers.{AreAscending, AreNumbersOf, AreValues, kept};
+ghost use Rattle.sound_rows.specs.RowNumbers.{AreAscending, AreNumbersOf, AreValues, kept};
 
-use crate::numbers::Numbers;
+use crate::numbers::RowNumbers;
 use crate::turns::are_in_turn;
 use std::alloc::{AllocError, Global};
 
-impl Numbers {
+impl RowNumbers {
     /// Whether rows with these numbers are such as a legal history has, if the values in them keep their rules and the
     /// tables keep their keys. It takes memory for what came of each event. With so few endpoints its time is in
     /// proportion to `n log n`. An error means that an allocation failed.

@@ -3,7 +3,7 @@ ghost use Rattle.std.specs.Prelude.{◌≡◌, true, unwrap_or, IfOk};
 ghost use Rattle.std.specs.BTreeMap as tree;
 ghost use Rattle.std.specs.Ordering.{nat_cmp};
 ghost use Rattle.std.specs.List.{list_all};
-ghost use Rattle.sound_rows.specs.Numbers.{IsAscending};
+ghost use Rattle.sound_rows.specs.RowNumbers.{IsAscending};
 ghost use Rattle.sound_rows.specs.Checks.{after_status, is_turn, may_come, no_progress};
 
 use crate::numbers::Attempt;
@@ -58,7 +58,7 @@ impl Progress {
 }
 
 // Whether each attempt stands behind its event and has the next number, and the attempts before it left the event
-// pending. An error is want of memory.
+// pending. An error means that an allocation failed.
 pub(crate) fn are_in_turn(attempts: &[Attempt], alloc: Global) -> Result<bool, AllocError>
     requires { IsAscending (λ t. t.seq) attempts.now }
     ensures { IfOk result (λ answer. answer ≡ list_all (is_turn attempts.now) attempts.now) }

@@ -13,7 +13,7 @@ use Rattle.relay_types.specs.Sound.{is_attempt_row, is_endpoint_row, secret_rows
 use Rattle.relay_types.specs.Values.{is_between, is_name, is_target, is_max_limit, is_msg_id, is_body, is_moment}
 use Rattle.relay_types.specs.Values.{is_secret, are_secrets}
 use Rattle.relay_types.proofs.KnownLaws.{and_first, and_second}
-use Rattle.sound_rows.specs.Numbers.{of_endpoint, of_delivery, of_attempt}
+use Rattle.sound_rows.specs.RowNumbers.{of_endpoint, of_delivery, of_attempt}
 use Rattle.sound_rows.specs.declared.numbers.Endpoint.{Endpoint}
 use Rattle.sound_rows.specs.declared.numbers.Delivery.{Delivery}
 use Rattle.sound_rows.specs.declared.numbers.Attempt.{Attempt}

@@ -17,7 +17,7 @@ use Rattle.sqlite_trees.specs.Tree.{has_rowid, rowid}
 use Rattle.sqlite_trees.proofs.ListLemmas.{filter-map, IsPermutation-filter}
 use Rattle.relay_types.specs.Rows.{Rows}
 use Rattle.relay_types.proofs.FilterLaws.{rising_map}
-use Rattle.sound_rows.specs.Numbers.{of_endpoint, of_delivery, of_attempt}
+use Rattle.sound_rows.specs.RowNumbers.{of_endpoint, of_delivery, of_attempt}
 use Rattle.sound_rows.specs.declared.numbers.Endpoint.{Endpoint}
 use Rattle.sound_rows.specs.declared.numbers.Delivery.{Delivery}
 use Rattle.sound_rows.specs.declared.numbers.Attempt.{Attempt}

@@ -14,7 +14,7 @@ use Rattle.sqlite_trees.proofs.ListLemmas.{map-map, all_weaker, all_both, all-ma
 use Rattle.sqlite_trees.proofs.ListLemmas.{IsPermutation-same}
 use Rattle.relay_types.specs.Values.{is_name, is_secret}
 use Rattle.relay_types.specs.Rows.{EndpointRow, SecretRow, DeliveryRow, AttemptRow, TopicRow}
-use Rattle.sound_rows.specs.Numbers.{of_endpoint, of_delivery, of_attempt, of_topic}
+use Rattle.sound_rows.specs.RowNumbers.{of_endpoint, of_delivery, of_attempt, of_topic}
 use Rattle.sound_rows.specs.declared.numbers.Endpoint.{Endpoint}
 use Rattle.sound_rows.specs.declared.numbers.Delivery.{Delivery}
 use Rattle.sound_rows.specs.declared.numbers.Attempt.{Attempt}

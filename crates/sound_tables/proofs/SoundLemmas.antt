@@ -22,11 +22,12 @@ use Rattle.relay_types.specs.Sound.{AreKeyed, IsRisingFrom, are_sound, is_endpoi
 use Rattle.relay_types.specs.Sound.{is_topic_row, secret_rows_at}
 use Rattle.relay_types.proofs.KnownLaws.{and_first, and_second}
 use Rattle.relay_types.proofs.FilterLaws.{rising_map}
-use Rattle.sound_rows.specs.Numbers.{AreAscending, AreNumbersOf, AreValues, kept, of_endpoint, of_delivery, of_attempt}
+use Rattle.sound_rows.specs.RowNumbers.{AreAscending, AreNumbersOf, AreValues, kept, of_endpoint, of_delivery}
+use Rattle.sound_rows.specs.RowNumbers.{of_attempt}
 use Rattle.sound_rows.specs.declared.numbers.Endpoint.{Endpoint}
 use Rattle.sound_rows.specs.declared.numbers.Delivery.{Delivery}
 use Rattle.sound_rows.specs.declared.numbers.Attempt.{Attempt}
-use Rattle.sound_rows.specs.declared.numbers.Numbers.{Numbers}
+use Rattle.sound_rows.specs.declared.numbers.RowNumbers.{RowNumbers}
 use Rattle.sound_rows.specs.declared.numbers.Topic.{Topic as Decided}
 use Rattle.sqlite_catalog.specs.Listing.{IsSound}
 use Rattle.spool_sql.specs.Stored.{AreTables, endpoint_stored, secret_stored, delivery_stored, attempt_stored}
@@ -144,7 +145,7 @@ module _ (rows : Rows) (is : IsTrue (are_sound rows)) where
 
 module _ (v : Version) (db : Database) (is : db.schema ≡ schema_of v) (records : ℕ) (stored : StoredRows)
     (read : AreRead v db records stored) (order : AreInOrder stored)
-    (numbers : Numbers) (records_are : numbers.records ≡ records) (endpoints_are : numbers.endpoints.items
+    (numbers : RowNumbers) (records_are : numbers.records ≡ records) (endpoints_are : numbers.endpoints.items
     ≡ stored.endpoints.items) (deliveries_are : numbers.deliveries.items ≡ stored.deliveries.items)
     (attempts_are : numbers.attempts.items ≡ stored.attempts.items)
     (turn : AreInTurn stored.topics.items numbers.topics.items)

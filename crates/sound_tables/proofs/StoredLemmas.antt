@@ -27,7 +27,7 @@ use Rattle.sqlite_schema.specs.Names.{is_key}
 use Rattle.sqlite_schema.specs.Rules.{are_typed, passes, suits}
 use Rattle.relay_types.specs.Values.{is_name, is_target, is_max_limit, is_msg_id, is_body, is_moment, is_secret}
 use Rattle.relay_types.specs.Rows.{EndpointRow, SecretRow, DeliveryRow, AttemptRow, TopicRow}
-use Rattle.sound_rows.specs.Numbers.{of_endpoint, of_delivery, of_attempt}
+use Rattle.sound_rows.specs.RowNumbers.{of_endpoint, of_delivery, of_attempt}
 use Rattle.sound_rows.specs.declared.numbers.Endpoint.{Endpoint}
 use Rattle.sound_rows.specs.declared.numbers.Delivery.{Delivery}
 use Rattle.sound_rows.specs.declared.numbers.Attempt.{Attempt}

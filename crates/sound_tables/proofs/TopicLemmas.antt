@@ -18,8 +18,8 @@ use Rattle.relay_types.specs.Values.{is_name}
 use Rattle.relay_types.specs.Sound.{AreKeyed, IsRisingFrom, is_put_at}
 use Rattle.relay_types.proofs.KnownLaws.{and_first, and_second}
 use Rattle.relay_types.proofs.FilterLaws.{rising_map}
-use Rattle.sound_rows.specs.Numbers.{AreAscending, kept, of_topic}
-use Rattle.sound_rows.specs.declared.numbers.Numbers.{Numbers}
+use Rattle.sound_rows.specs.RowNumbers.{AreAscending, kept, of_topic}
+use Rattle.sound_rows.specs.declared.numbers.RowNumbers.{RowNumbers}
 use Rattle.sound_rows.specs.declared.numbers.Topic.{Topic as Decided}
 use Rattle.spool_sql.specs.Tables.{relay_schema}
 use Rattle.spool_sql.specs.Stored.{AreTables, IsTablesOf, topic_stored}
@@ -217,7 +217,7 @@ topics_same Second db rows it keyed ts shown numbers turn =
     (IsPermutation-trans _ _ _ (topics_read (db.trees 9) rows.topics ts it.tables.topics shown) turn.same) turn.sorted
 
 -- numbers of which none is denied for their order rise
-pub rising_where : (numbers : Numbers) (answer : Bool) → (¬ AreAscending (kept numbers) → answer ≡ false)
+pub rising_where : (numbers : RowNumbers) (answer : Bool) → (¬ AreAscending (kept numbers) → answer ≡ false)
     → answer ≡ true → IsRisingFrom (λ (t : Decided). t.set_by) 0 numbers.topics.items
 rising_where numbers answer denied agreed = elim (rises_or (λ (t : Decided). t.set_by) 0 numbers.topics.items) [
   | inl rises ↦ rises

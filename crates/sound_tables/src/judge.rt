@@ -10,7 +10,7 @@ use crate::places::are_in_places;
 use crate::stored::StoredRows;
 use crate::topic::numbers_in_turn;
 use crate::version::Version;
-use sound_rows::Numbers;
+use sound_rows::RowNumbers;
 use sqlite::{Error, ErrorCode};
 use std::alloc::{AllocError, Global};
 
@@ -46,7 +46,7 @@ fn are_sound(records: u64, rows: StoredRows, alloc: Global) -> Result<bool, Allo
         attempts,
         topics,
     } = rows;
-    let numbers = Numbers {
+    let numbers = RowNumbers {
         records,
         endpoints,
         deliveries,

@@ -26,9 +26,9 @@ use Rattle.delivery_book.specs.declared.entry.Entry.{Entry}
 use Rattle.delivery_book.specs.Entries.{BookValue, empty_book, is_entry_as, is_kept, known_in, new_entry, with_event}
 use Rattle.spool.specs.Reading.{IsRising}
 use Rattle.spool.specs.Loading.{AreAccepted, Accepts, NextToAccept, MayAccept, AreNames, IsNameOf, fresh_entry}
-use Rattle.spool.specs.Loading.{greatest, known_of, name_put}
+use Rattle.spool.specs.Loading.{greatest, named_put_of, name_put}
 use Rattle.spool.specs.declared.deliveries.Deliveries.{Deliveries}
-use Rattle.spool.specs.declared.load_endpoints.Known.{Known}
+use Rattle.spool.specs.declared.load_endpoints.NamedPut.{NamedPut}
 use Rattle.spool.proofs.PageLaws.{below_next, get_map, rising_find, rising_higher, rising_kept, rising_map, rows_rise}
 use Rattle.spool.proofs.PageLaws.{legal_length}
 use Rattle.spool.proofs.QuietReads.{IsReadTo, read_none}
@@ -46,20 +46,20 @@ module _ (records : List Record) where
   some_is e = cc
 
   -- a name among those of the endpoints is that of the number
-  pub named : (names : List Known) (put : Seq) (name : Text) → AreNames names records → IsNameOf names put name
+  pub named : (names : List NamedPut) (put : Seq) (name : Text) → AreNames names records → IsNameOf names put name
       → name_put rows put ≡ name
-  named names put name are (k, is) = at (slice_get rows k) refl (sym (get_map known_of rows k)
+  named names put name are (k, is) = at (slice_get rows k) refl (sym (get_map named_put_of rows k)
       ∙ ap (λ ks. slice_get ks k) (sym are) ∙ is)
     where
       at : (o : Option EndpointRow) → slice_get rows k ≡ o
-          → option_map known_of o ≡ Some (record { put = put; name = name }) → name_put rows put ≡ name
+          → option_map named_put_of o ≡ Some (record { put = put; name = name }) → name_put rows put ≡ name
       at None e h = absurd (let no = h in cc)
       at (Some row) e h =
-          let known : known_of row ≡ record { put = put; name = name } = some_is h in
-          sym (ap (λ (n : Known). name_put rows n.put) known)
+          let known : named_put_of row ≡ record { put = put; name = name } = some_is h in
+          sym (ap (λ (n : NamedPut). name_put rows n.put) known)
           ∙ ap (λ o. option_map_or (λ (e : EndpointRow). e.name) o [])
           (rising_find (λ (e : EndpointRow). e.put) 0 (length records) k rows row (endpoints_rise records) e)
-          ∙ ap (λ (n : Known). n.name) known
+          ∙ ap (λ (n : NamedPut). n.name) known
 
   pub deliveries_rise : IsRising (λ (d : DeliveryRow). d.seq) 0 (length records) (rows_of records).deliveries
   deliveries_rise =
@@ -83,7 +83,7 @@ module _ (records : List Record) where
       at_seq k (Purge moment) d is = absurd (let no = is in cc)
 
   -- the event of one more row, for the endpoint of this name
-  pub accepted_more : (names : List Known) (row : DeliveryRow) (name : Text) (old new : Deliveries)
+  pub accepted_more : (names : List NamedPut) (row : DeliveryRow) (name : Text) (old new : Deliveries)
       → AreNames names records → IsNameOf names row.endpoint name
       → new.book ≡ with_event old.book row.seq name row.id row.body row.at → new.clock ≡ max old.clock row.at
       → Accepts old new (row ∷ []) records
@@ -110,11 +110,11 @@ module _ (records : List Record) where
 
   -- The names of the endpoints, in the order of their numbers
 
-  pub names_rise : (names : List Known) → IsLegal records → AreNames names records
-      → IsRising (λ (known : Known). known.put) 0 MAX_RECORDS names
+  pub names_rise : (names : List NamedPut) → IsLegal records → AreNames names records
+      → IsRising (λ (known : NamedPut). known.put) 0 MAX_RECORDS names
   names_rise names legal are =
-      subst (IsRising (λ (known : Known). known.put) 0 MAX_RECORDS) (sym are)
-      (rising_map known_of (λ (known : Known). known.put) 0 MAX_RECORDS rows
+      subst (IsRising (λ (known : NamedPut). known.put) 0 MAX_RECORDS) (sym are)
+      (rising_map named_put_of (λ (known : NamedPut). known.put) 0 MAX_RECORDS rows
       (rising_higher (λ (e : EndpointRow). e.put) 0 (length records) MAX_RECORDS rows (legal_length records legal)
       (endpoints_rise records)))
 
@@ -143,12 +143,12 @@ module _ (records : List Record) where
         → In row deliveries
     next_in_table {loaded} {row} (before, after, parted, h) = subst (In row) (sym parted) (in_middle before after row)
 
-    pub none_missing : (names : List Known) (row : DeliveryRow) → AreNames names records → In row deliveries
-        → list_any (λ (known : Known). known.put == row.endpoint) names ≡ false → ⊥
+    pub none_missing : (names : List NamedPut) (row : DeliveryRow) → AreNames names records → In row deliveries
+        → list_any (λ (known : NamedPut). known.put == row.endpoint) names ≡ false → ⊥
     none_missing names row are i none =
         let there = endpoint_there row i in
-        let no = in_none (λ (known : Known). known.put == row.endpoint) names (known_of there.0) none
-        (subst (In (known_of there.0)) (sym are) (map_in known_of rows there.0 there.1)) in
+        let no = in_none (λ (known : NamedPut). known.put == row.endpoint) names (named_put_of there.0) none
+        (subst (In (named_put_of there.0)) (sym are) (map_in named_put_of rows there.0 there.1)) in
         let yes = eq-eqb there.0.put row.endpoint there.2 in cc
 
     -- two events of one endpoint and id are one
@@ -175,7 +175,7 @@ module _ (records : List Record) where
             (let no : true && (true && not false) ≡ false = sym (λ i. put i && (id i && not (other i))) ∙ none in cc)
 
     -- the event of the next row may be taken in
-    pub may_accept_next : (names : List Known) (loaded : Deliveries) (row : DeliveryRow) (name : Text)
+    pub may_accept_next : (names : List NamedPut) (loaded : Deliveries) (row : DeliveryRow) (name : Text)
         → AreNames names records → IsNameOf names row.endpoint name → NextToAccept loaded (row ∷ []) records
         → MayAccept loaded.book row.seq name row.id
     may_accept_next names loaded row name are is (before, after, parted, h) = ((h.left (row ∷ after) parted).0, unknown)

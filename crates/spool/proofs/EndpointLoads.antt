@@ -26,7 +26,7 @@ use Rattle.relay_types.proofs.TableLaws.{In, none_found}
 use Rattle.endpoint_book.specs.Entries.{BookValue, empty_book, is_known, is_named, restored_entry, with_restored}
 use Rattle.spool_sql.specs.Stored.{AreSecretsOf}
 use Rattle.spool.specs.Reading.{IsRising}
-use Rattle.spool.specs.Loading.{AreRestored, Restores, NextToRestore, MayRestore, entry_of_row, known_of}
+use Rattle.spool.specs.Loading.{AreRestored, Restores, NextToRestore, MayRestore, entry_of_row, named_put_of}
 use Rattle.spool.specs.declared.load_endpoints.Endpoints.{Endpoints}
 use Rattle.spool.proofs.PageLaws.{below_next, rising_order, rising_map, rising_at, rising_higher, rows_rise}
 use Rattle.spool.proofs.PageLaws.{legal_length}
@@ -176,7 +176,7 @@ module _ (records : List Record) where
       → ((before after : List EndpointRow) → (rows_of records).endpoints ≡ before ++ (row ∷ after)
       → secrets ≡ secrets_of records row.name)
       → new.book ≡ with_restored old.book (restored_entry row.put row.name row.url row.max secrets row.enabled)
-      → new.names.items ≡ old.names.items ++ known_of row ∷ []
+      → new.names.items ≡ old.names.items ++ named_put_of row ∷ []
       → Restores old new (row ∷ []) records
   restored_more row secrets old new given book names before after is h = record {
     entries = ap (λ (b : BookValue). b.entries) book
@@ -190,7 +190,7 @@ module _ (records : List Record) where
         (sym (ap (λ (b : BookValue). b.next_seq) book))
         (h.left (row ∷ rest) (parted ∙ append_assoc before (row ∷ []) rest)).1;
     settled_seq = omega (arith, ap (λ (b : BookValue). b.settled_seq) book, within);
-    names = names ∙ ap (λ ks. ks ++ known_of row ∷ []) h.names ∙ sym (map-append known_of before (row ∷ []));
+    names = names ∙ ap (λ ks. ks ++ named_put_of row ∷ []) h.names ∙ sym (map-append named_put_of before (row ∷ []));
   }
     where
       within : row.put < length records

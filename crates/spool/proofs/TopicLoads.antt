@@ -27,9 +27,9 @@ use Rattle.endpoint_book.specs.Topics.{TopicsValue, flag_of, has_place, last_fla
 use Rattle.endpoint_book.proofs.Pairs.{count-put, flag-put}
 use Rattle.spool.specs.Reading.{IsRising}
 use Rattle.spool.specs.Loading.{AreNames, AreRestored, AreSubscribed, HaveFlags, HaveTopics, IsNameOf, Subscribes}
-use Rattle.spool.specs.Loading.{NextToSubscribe, is_topic_of, known_of, name_put}
+use Rattle.spool.specs.Loading.{NextToSubscribe, is_topic_of, named_put_of, name_put}
 use Rattle.spool.specs.declared.load_endpoints.Endpoints.{Endpoints}
-use Rattle.spool.specs.declared.load_endpoints.Known.{Known}
+use Rattle.spool.specs.declared.load_endpoints.NamedPut.{NamedPut}
 use Rattle.spool.proofs.PageLaws.{below_next, rising_higher, rising_map, rows_rise, legal_length}
 use Rattle.spool.proofs.QuietReads.{IsReadTo, read_none}
 use Rattle.spool.proofs.EndpointLoads.{in_front, in_middle, restored_within}
@@ -261,13 +261,13 @@ module _ (records : List Record) (legal : IsLegal records) where
       → In row (rows_of records).topics
   next_topic loaded row (before, after, parted, h) = subst (In row) (sym parted) (in_middle before after row)
 
-  pub no_topic_missing : (names : List Known) (row : TopicRow) → AreNames names records
+  pub no_topic_missing : (names : List NamedPut) (row : TopicRow) → AreNames names records
       → In row (rows_of records).topics
-      → list_any (λ (known : Known). known.put == row.endpoint) names ≡ false → ⊥
+      → list_any (λ (known : NamedPut). known.put == row.endpoint) names ≡ false → ⊥
   no_topic_missing names row are i none =
       let found = in_any (λ (e : EndpointRow). e.put == row.endpoint) (rows_of records).endpoints
       (in_all (λ (t : TopicRow). is_put_at (rows_of records) t.endpoint)
       (rows_of records).topics row keyed.subscribed i) in
-      let no = in_none (λ (known : Known). known.put == row.endpoint) names (known_of found.0) none
-      (subst (In (known_of found.0)) (sym are) (map_in known_of (rows_of records).endpoints found.0 found.1)) in
+      let no = in_none (λ (known : NamedPut). known.put == row.endpoint) names (named_put_of found.0) none
+      (subst (In (named_put_of found.0)) (sym are) (map_in named_put_of (rows_of records).endpoints found.0 found.1)) in
       let yes = found.2 in cc

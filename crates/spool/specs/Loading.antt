@@ -26,7 +26,7 @@ use Rattle.spool_sql.specs.Steps.{IfClean}
 use Rattle.spool.specs.Reading.{ComeNext, IsRising, ReadsOn}
 use Rattle.spool.specs.declared.deliveries.Deliveries.{Deliveries}
 use Rattle.spool.specs.declared.load_endpoints.Endpoints.{Endpoints}
-use Rattle.spool.specs.declared.load_endpoints.Known.{Known}
+use Rattle.spool.specs.declared.load_endpoints.NamedPut.{NamedPut}
 
 -- ---- the clauses that the functions share
 
@@ -59,8 +59,8 @@ IsRefusedOnly g old new result Given = IfClean g old new (λ a b. IfErr result (
 
 -- ---- endpoints
 
-abbrev pub known_of : EndpointRow → Known
-known_of e = record { put = e.put; name = e.name }
+abbrev pub named_put_of : EndpointRow → NamedPut
+named_put_of e = record { put = e.put; name = e.name }
 
 -- the endpoint of this number and name may be the next one of the book
 abbrev pub MayRestore : BookValue → (put : Seq) (name : Text) → Type 0
@@ -78,7 +78,7 @@ pub record AreRestored (loaded : Endpoints) (records : List Record) (rows : List
   pub left : (after : List EndpointRow) → (rows_of records).endpoints ≡ rows ++ after
       → IsRising (λ (e : EndpointRow). e.put) loaded.book.next_seq (length records) after
   pub settled_seq : loaded.book.settled_seq ≤ length records
-  pub names : loaded.names.items ≡ map known_of rows
+  pub names : loaded.names.items ≡ map named_put_of rows
 
 -- these rows of the table were read after those before
 abbrev pub Restores : (old new : Endpoints) → List EndpointRow → List Record → Type 0
@@ -92,8 +92,8 @@ NextToRestore loaded more records = ComeNext (rows_of records).endpoints (AreRes
 -- ---- topics
 
 -- these are the numbers and names of the endpoints of these records
-abbrev pub AreNames : List Known → List Record → Type 0
-AreNames names records = names ≡ map known_of (rows_of records).endpoints
+abbrev pub AreNames : List NamedPut → List Record → Type 0
+AreNames names records = names ≡ map named_put_of (rows_of records).endpoints
 
 -- the name of the endpoint with this number
 abbrev pub name_put : List EndpointRow → (put : Seq) → Text
@@ -144,7 +144,7 @@ greatest [] = 0
 greatest (at ∷ rest) = max at (greatest rest)
 
 -- an endpoint of this number has this name
-abbrev pub IsNameOf : List Known → (put : Seq) (name : Text) → Type 0
+abbrev pub IsNameOf : List NamedPut → (put : Seq) (name : Text) → Type 0
 IsNameOf names put name = (at : ℕ) × (slice_get names at ≡ Some (record { put = put; name = name }))
 
 -- the event of this number, endpoint and id may be the next one of the book

@@ -14,7 +14,7 @@ ghost use Rattle.spool.specs.Loading.{AreNames, IsNameOf};
 ghost use Rattle.spool.specs.Reading.{IsRising};
 
 use crate::deliveries::Deliveries;
-use crate::load_endpoints::Known;
+use crate::load_endpoints::NamedPut;
 use crate::pages::behind;
 use delivery_book::DeliveryBook;
 use relay_types::{MAX_RECORDS, Moment, MsgId, Name};
@@ -49,7 +49,7 @@ impl Deliveries {
 }
 
 // The name of the endpoint with this number, by halves.
-pub(crate) fn name_of(names: &[Known], put: u64) -> Option<Name>
+pub(crate) fn name_of(names: &[NamedPut], put: u64) -> Option<Name>
     ensures found { IfSome result (IsNameOf names.now put) }
     ensures missing { result ≡ None → IsRising (λ known. known.put) 0 MAX_RECORDS names.now
         → list_any (λ known. known.put == put) names.now ≡ false }
@@ -64,7 +64,7 @@ pub(crate) fn name_of(names: &[Known], put: u64) -> Option<Name>
 // Takes in the events of a page, whose endpoints have these names.
 fn accept_page(
     loaded: &mut Deliveries,
-    names: &[Known],
+    names: &[NamedPut],
     page: Vec<DeliveryRow>,
 ) -> Result<(), RowFault>
     ensures found { OnOk result ((records : List Record) → AreNames names.now records
@@ -84,7 +84,7 @@ fn accept_page(
 /// The events of the tables, each without an attempt; the endpoints of the tables have these names.
 pub(crate) fn load_deliveries<S: Alter>(
     tx: &mut Transaction<'_, S>,
-    names: &[Known],
+    names: &[NamedPut],
     alloc: Global,
 ) -> Result<Deliveries, RowFault>
     ensures same_reference { IsOfSame tx.old.conn tx.new.conn }

@@ -6,7 +6,7 @@ ghost use Rattle.spool_sql.specs.Readable.{IsMemoryFault};
 ghost use Rattle.spool_sql.specs.Stored.{endpoint_of};
 ghost use Rattle.spool_sql.specs.Steps.{IsOfSame, LeavesAll, SparesCommit};
 ghost use Rattle.spool.specs.Loading.{LeavesOpen, Reads, IsRefusedOnly, AreRestored, Restores, NextToRestore};
-ghost use Rattle.spool.specs.Loading.{MayRestore, known_of};
+ghost use Rattle.spool.specs.Loading.{MayRestore, named_put_of};
 
 use crate::pages::behind;
 use endpoint_book::EndpointBook;
@@ -17,7 +17,7 @@ use std::alloc::Global;
 
 /// The number of an endpoint's Put, and its name.
 #[derive(Clone, Copy)]
-pub struct Known {
+pub struct NamedPut {
     pub(crate) put: u64,
     pub(crate) name: Name,
 }
@@ -26,7 +26,7 @@ pub struct Known {
 #[derive(Drop)]
 pub struct Endpoints {
     pub(crate) book: EndpointBook,
-    pub(crate) names: Vec<Known>,
+    pub(crate) names: Vec<NamedPut>,
 }
 
 impl Endpoints {
@@ -43,7 +43,7 @@ impl Endpoints {
         ensures book { OnOk result (self.new.book ≡ with_restored self.old.book
             (restored_entry row.put row.name row.target row.max secrets row.enabled)) }
         ensures names { OnOk result (self.new.names.items
-            ≡ self.old.names.items ++ known_of (endpoint_of row) ∷ []) }
+            ≡ self.old.names.items ++ named_put_of (endpoint_of row) ∷ []) }
         ensures settled { OnOk result (self.new.book.changes ≡ []) }
         ensures refused { IfErr result (λ fault. MayRestore self.old.book row.put row.name → IsMemoryFault fault) }
     {
@@ -52,7 +52,7 @@ impl Endpoints {
             return Err(RowFault::Unreadable);
         }
         self.names
-            .push(Known {
+            .push(NamedPut {
                 put,
                 name: row.name,
             })

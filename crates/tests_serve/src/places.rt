@@ -341,44 +341,44 @@ fn a_file_on_another_device_is_another(rt: HostRuntime) -> Result<(), Fail> {
 /// Why a committer gave up, what the last look found, and what the operator reads.
 struct HaltCase {
     cause: HaltCause,
-    sight: FileCheck,
+    check: FileCheck,
     told: &'static str,
 }
 
 static HALTS: [HaltCase; 7] = [
     HaltCase {
         cause: HaltCause::OutOfTurn,
-        sight: FileCheck::Stands,
+        check: FileCheck::Stands,
         told: "a batch was out of turn",
     },
     HaltCase {
         cause: HaltCause::OutOfTurn,
-        sight: FileCheck::Gone,
+        check: FileCheck::Gone,
         told: "the file isn't the one that was opened",
     },
     HaltCase {
         cause: HaltCause::OutOfTurn,
-        sight: FileCheck::Unseen,
+        check: FileCheck::Unseen,
         told: "the file can't be looked at",
     },
     HaltCase {
         cause: HaltCause::OutOfMemory,
-        sight: FileCheck::OutOfMemory,
+        check: FileCheck::OutOfMemory,
         told: "out of memory nine times in a row",
     },
     HaltCase {
         cause: HaltCause::Closed,
-        sight: FileCheck::Gone,
+        check: FileCheck::Gone,
         told: "the result of an earlier commit is unknown",
     },
     HaltCase {
         cause: HaltCause::Illegal,
-        sight: FileCheck::Stands,
+        check: FileCheck::Stands,
         told: "a record is invalid after those in the store",
     },
     HaltCase {
         cause: HaltCause::Halted,
-        sight: FileCheck::Stands,
+        check: FileCheck::Stands,
         told: "the relay had halted before",
     },
 ];
@@ -386,7 +386,7 @@ static HALTS: [HaltCase; 7] = [
 #[test]
 fn a_halt_is_told_by_its_cause(rt: HostRuntime) {
     for case in &HALTS {
-        let told = halt_text(case.cause, case.sight);
+        let told = halt_text(case.cause, case.check);
         holds(&rt, told == case.told, case.told);
     }
 }

@@ -2,7 +2,7 @@
 
 use crate::cases::holds;
 use relay_types::MAX_SUBSCRIPTIONS;
-use sound_rows::{Attempt, Delivery, Endpoint, Numbers, Topic};
+use sound_rows::{Attempt, Delivery, Endpoint, RowNumbers, Topic};
 use std::alloc::Global;
 use std::process::Abort;
 
@@ -188,8 +188,8 @@ static THERE_ARE_AS_MANY_TOPICS_AS_MAY_BE_NAMED: [File; 2] = [
     File::Pairs(MAX_SUBSCRIPTIONS + 1, false),
 ];
 
-fn empty(alloc: Global) -> Numbers {
-    Numbers {
+fn empty(alloc: Global) -> RowNumbers {
+    RowNumbers {
         records: 0,
         endpoints: Vec::new(alloc),
         deliveries: Vec::new(alloc),
@@ -198,12 +198,12 @@ fn empty(alloc: Global) -> Numbers {
     }
 }
 
-fn put(rt: &impl Abort, numbers: &mut Numbers, endpoint: Endpoint) {
+fn put(rt: &impl Abort, numbers: &mut RowNumbers, endpoint: Endpoint) {
     numbers.endpoints.push(endpoint).expect(rt, "memory");
 }
 
 /// An event of the first endpoint at 1, and an attempt at it with this number of its own.
-fn attempt(rt: &impl Abort, numbers: &mut Numbers, seq: u64, number: u64, status: u16) {
+fn attempt(rt: &impl Abort, numbers: &mut RowNumbers, seq: u64, number: u64, status: u16) {
     let event = Delivery {
         seq: 1,
         endpoint: 0,
@@ -218,14 +218,14 @@ fn attempt(rt: &impl Abort, numbers: &mut Numbers, seq: u64, number: u64, status
     numbers.attempts.push(attempt).expect(rt, "memory");
 }
 
-fn subscribe(rt: &impl Abort, numbers: &mut Numbers, endpoint: u64, set_by: u64) {
+fn subscribe(rt: &impl Abort, numbers: &mut RowNumbers, endpoint: u64, set_by: u64) {
     let topic = Topic { endpoint, set_by };
     numbers.topics.push(topic).expect(rt, "memory");
 }
 
 fn subscribe_all(
     rt: &impl Abort,
-    numbers: &mut Numbers,
+    numbers: &mut RowNumbers,
     endpoints: &[Endpoint],
     topics: &[(u64, u64)],
 ) {
@@ -237,19 +237,19 @@ fn subscribe_all(
     }
 }
 
-fn subscribe_each(rt: &impl Abort, numbers: &mut Numbers, count: usize) {
+fn subscribe_each(rt: &impl Abort, numbers: &mut RowNumbers, count: usize) {
     put(rt, numbers, FIRST);
     for number in 0..count {
         subscribe(rt, numbers, 0, number as u64 + 1);
     }
 }
 
-fn are_sound(rt: &impl Abort, alloc: Global, numbers: &Numbers) -> bool {
+fn are_sound(rt: &impl Abort, alloc: Global, numbers: &RowNumbers) -> bool {
     numbers.are_sound(alloc).expect(rt, "memory")
 }
 
 /// Fills the rows; whether a legal history is to have them.
-fn fill(rt: &impl Abort, numbers: &mut Numbers, file: File) -> bool {
+fn fill(rt: &impl Abort, numbers: &mut RowNumbers, file: File) -> bool {
     match file {
         File::Empty(records, sound) => {
             numbers.records = records;

@@ -1,7 +1,7 @@
 """Each allocation of each call refused in turn: it returns what calls.txt says.
 
 A public call that takes memory and isn't in the table fails. First calls alone, each between two
-bytes of standard input, by `driver growths`; then each line of a script, by `relayd replay`; then
+bytes of standard input, by `driver oom`; then each line of a script, by `relayd replay`; then
 whole commands, with each allocation refused and with each two in turn; `driver loads` and `driver
 runs`, of which each tells which of its calls was refused; and relays that serve, whose committer
 can't seal what waits, eight times in a row and nine times.
@@ -26,7 +26,7 @@ from lib.serving import Relay, ask, put
 CRATES = ROOT / "crates"
 TABLE = pathlib.Path(__file__).with_name("calls.txt")
 SECRET = "whsec_MfKQ9r8GKYqrTwjUPD8ILPZIo2LaLaSw"
-WAYS = {"growths", "none", "line", "part", "command", "driver", "serve"}
+WAYS = {"oom", "none", "line", "part", "command", "driver", "serve"}
 
 
 class Row:
@@ -124,12 +124,12 @@ STRIDE = {"FILE": 8, "FIRST": 8, "ABSENT": 8}
 
 
 def made(library, driver, word, folder, step=0, refuse=0, many=1):
-    """What `driver growths` tells of a call that is made twice: what stood, the two answers, and how it ended."""
+    """What `driver oom` tells of a call that is made twice: what stood, the two answers, and how it ended."""
     with tempfile.TemporaryDirectory(dir=folder) as scratch:
         path = os.path.join(scratch, "store")
         if FILES.get(word):
             shutil.copyfile(os.path.join(folder, FILES[word]), path)
-        words = [driver, "growths", path if word in FILES else word]
+        words = [driver, "oom", path if word in FILES else word]
         run = faults.Lines(library, words, folder, step, refuse, many)
         stood = run.read()
         answers = [run.send("\n"), run.send("\n")]
@@ -502,7 +502,7 @@ def main():
         library = faults.compiled(folder)
         make_files(relayd, folder)
         for row in rows:
-            if row.way in ("growths", "none") and row.word:
+            if row.way in ("oom", "none") and row.word:
                 try_call(library, driver, row, folder, pool, counts)
         for at in range(len(SCRIPT)):
             try_line(library, relayd, rows, at, folder, pool, counts)

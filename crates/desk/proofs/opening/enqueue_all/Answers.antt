@@ -23,7 +23,7 @@ loop-place-preserved c =
         rooms = record {
           reserved = λ name. ap (λ (q : QueueValue). is_reserved q name) w.queue-is ∙ rooms.reserved name
               ∙ was.rooms.reserved name;
-          rooms = λ name. ap (λ (q : QueueValue). has_room_in q.marks name) w.queue-is ∙ rooms.rooms name
+          rooms = λ name. ap (λ (q : QueueValue). has_room_in q.states name) w.queue-is ∙ rooms.rooms name
               ∙ was.rooms.rooms name;
         };
       }

@@ -13,14 +13,14 @@ loop-place-preserved c =
       | in-Some+in_ok-reserve w ↦ record {
         pairs = λ pair. ap (λ (q : QueueValue). is_held q pair) w.queue-is ∙ w.in_ok-reserve.ensures.pairs pair
             ∙ was.pairs pair;
-        rooms = λ name. ap (λ (q : QueueValue). has_room_in q.marks name) w.queue-is
-            ∙ room_reserved c.loop-place.queue w.reserve.new.self _ name _ w.in_ok-reserve.ensures.mark
+        rooms = λ name. ap (λ (q : QueueValue). has_room_in q.states name) w.queue-is
+            ∙ room_reserved c.loop-place.queue w.reserve.new.self _ name _ w.in_ok-reserve.ensures.state
             ∙ was.rooms name;
         places = subst (λ (q : QueueValue). list_all (has_all book q) (take (c.loop-place.place + 1) book.entries)
             ≡ true) (sym w.queue-is)
             (all_more c.loop-place.queue w.reserve.new.self book c.loop-place.place w.pending-pending.result
             w.in-Some.row w.in-Some.ensures w.pending-pending.ensures.value
-            w.in_ok-reserve.ensures.mark was.places);
+            w.in_ok-reserve.ensures.state was.places);
       }
       | in_default w ↦ absurd (no_row_there book c.loop-place.place c.len-place-end.ensures.in_step c.requires.settled
           (omega (arith, c.loop-place-test.true, c.len-place-end.ensures.count)) w.in_default.ensures)

@@ -10,13 +10,13 @@ loop-name-preserved g c = record {
   places = λ name. omega (
     arith,
     c.loop-name.invariant.places name,
-    told_places c.loop-name.queue c.reserve.new.self c.update_room.new.queue _ _ c.in_ok-reserve.ensures.mark
-        c.update_room.ensures.mark name,
+    told_places c.loop-name.queue c.reserve.new.self c.update_room.new.queue _ _ c.in_ok-reserve.ensures.state
+        c.update_room.ensures.state name,
   );
   told = told_next c.loop-name.queue c.reserve.new.self c.update_room.new.queue c.args.endpoints.now c.args.limiters.now
       c.names-name-items.result.now c.loop-name.name-index _ c.args.pool.now
       c.requires.none_out c.names-name-items.ensures.value c.loop-name-test.true c.name-item.is
-      c.in_ok-reserve.ensures.mark c.update_room.ensures.mark c.loop-name.invariant.told;
+      c.in_ok-reserve.ensures.state c.update_room.ensures.state c.loop-name.invariant.told;
 }
 
 pub returns-clause-marked : goal.returns-clause-marked

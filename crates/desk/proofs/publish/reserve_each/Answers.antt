@@ -14,10 +14,10 @@ loop-name-preserved c =
     let queue = c.loop-name.queue in
     let new = c.reserve.new.self in
     record {
-      more = more_then c.args.queue.now queue new _ _ made.pairs made.mark was.more;
+      more = more_then c.args.queue.now queue new _ _ made.pairs made.state was.more;
       each = each_then queue new c.args.deliveries.now c.args.names.now c.loop-name.name-index c.pending-pending.result
           _
-          c.pending-pending.ensures.value c.name-item.is c.loop-name-test.true made.mark was.each;
+          c.pending-pending.ensures.value c.name-item.is c.loop-name-test.true made.state was.each;
     }
 
 pub returns-clause-each : goal.returns-clause-each

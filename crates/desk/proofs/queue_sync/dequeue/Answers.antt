@@ -6,4 +6,4 @@ pub returns-in-Some-clause-places : goal.returns-in-Some-clause-places
 returns-in-Some-clause-places c =
     places_let_go c.args.queue.now c.remove.new.self c.args.deliveries.now (pair_of _ _ c.args.delivery)
     c.requires.places c.due_of.ensures.once
-    (record { pairs = c.remove.ensures.pairs; mark = c.remove.ensures.mark; place = c.remove.ensures.place })
+    (record { pairs = c.remove.ensures.pairs; state = c.remove.ensures.state; place = c.remove.ensures.place })

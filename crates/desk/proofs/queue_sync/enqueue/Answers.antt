@@ -16,4 +16,4 @@ returns-in-Some-clause-places c =
     c.requires.unheld
     (idle_from c.args.deliveries.now c.args.delivery _ (sym c.if-not-takes_outcome.ensures.value)
     c.in-Some.ensures.pair)
-    (record { pairs = c.insert.ensures.pairs; mark = c.insert.ensures.mark })
+    (record { pairs = c.insert.ensures.pairs; state = c.insert.ensures.state })

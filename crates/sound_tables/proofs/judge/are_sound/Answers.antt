@@ -1,7 +1,7 @@
 use Rattle.std.proofs.Common.{refl, rules, IsPermutation, ◌≡◌, ap, subst, ◌∙◌}
 use Rattle.std.specs.List.{list_all}
 use Rattle.sound_rows.specs.declared.numbers.Endpoint.{Endpoint}
-use Rattle.sound_rows.specs.declared.numbers.Numbers.{Numbers}
+use Rattle.sound_rows.specs.declared.numbers.RowNumbers.{RowNumbers}
 use Rattle.sound_tables.specs.Checks.{AreInTurn}
 use Rattle.sound_tables.specs.Places.{are_places, places_of}
 use Rattle.sound_tables.proofs.SoundLemmas.{judged, none_sound}
@@ -10,7 +10,7 @@ use Rattle.sound_tables.proofs.judge.are_sound.Goals as goal
 
 pub returns : goal.returns
 returns c v db is read =
-    let numbers : Numbers = record {
+    let numbers : RowNumbers = record {
       records = c.args.records;
       endpoints = c.args.rows.endpoints;
       deliveries =

@@ -8,7 +8,7 @@ use Rattle.relay_types.specs.Legal.{IsLegal}
 use Rattle.relay_types.specs.Rows.{rows_of}
 use Rattle.spool_sql.specs.Readable.{IsMemoryFault}
 use Rattle.spool_sql.proofs.ReadableLemmas.{handed_on}
-use Rattle.spool.specs.declared.load_endpoints.Known.{Known}
+use Rattle.spool.specs.declared.load_endpoints.NamedPut.{NamedPut}
 use Rattle.spool_sql.specs.Stored.{delivery_of}
 use Rattle.spool.specs.Loading.{AreAccepted, Accepts, AreNames, IsNameOf, NextToAccept}
 use Rattle.spool.proofs.PageLaws.{map_itself, turned}
@@ -56,7 +56,7 @@ returns-in_default-clause-refused c records legal are next =
     let put = c.get.ensures.number in
     absurd (none_missing records legal c.args.names.now (delivery_of c.in-Some.row) are
     (next_in_table records legal row)
-    (subst (λ n. list_any (λ (known : Known). known.put == n) c.args.names.now ≡ false) put
+    (subst (λ n. list_any (λ (known : NamedPut). known.put == n) c.args.names.now ≡ false) put
     (c.name_of.ensures.missing c.in_default.is (names_rise records c.args.names.now legal are))))
 
 pub returns-in_err-accept-clause-refused : goal.returns-in_err-accept-clause-refused

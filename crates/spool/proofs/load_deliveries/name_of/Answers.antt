@@ -3,16 +3,16 @@ use Rattle.std.proofs.Common.{arith, lt-ltb}
 use Rattle.std.proofs.lemmas.List.Sorted.{IsPartitionPoint-from_clause}
 use Rattle.relay_types.specs.declared.limits.TheConstants.{MAX_RECORDS}
 use Rattle.delivery_book.proofs.Entries.{get_or-any}
-use Rattle.spool.specs.declared.load_endpoints.Known.{Known}
+use Rattle.spool.specs.declared.load_endpoints.NamedPut.{NamedPut}
 use Rattle.spool.proofs.PageLaws.{rising_parted, none_there}
 use Rattle.spool.proofs.load_deliveries.name_of.Goals as goal
 use Rattle.spool.proofs.load_deliveries.name_of.Goals.{in_default-via-in-Some+else-known-put, in_default-via-in_default}
 
 pub returns-in_default-clause-missing : goal.returns-in_default-clause-missing
 returns-in_default-clause-missing c none rises =
-    let number = λ (known : Known). known.put in
+    let number = λ (known : NamedPut). known.put in
     let names = c.args.names.now in
-    let point = IsPartitionPoint-from_clause (λ (known : Known). ltb known.put c.args.put) _ _
+    let point = IsPartitionPoint-from_clause (λ (known : NamedPut). ltb known.put c.args.put) _ _
     c.partition_point-index.ensures.partitioned (rising_parted number 0 MAX_RECORDS c.args.put names rises)
     (λ a r q k. search rules) in
     none_there number 0 MAX_RECORDS c.args.put c.partition_point-index.result names rises

@@ -8,7 +8,7 @@ use Rattle.relay_types.specs.Legal.{IsLegal}
 use Rattle.relay_types.specs.Rows.{rows_of}
 use Rattle.spool_sql.specs.Readable.{IsMemoryFault}
 use Rattle.spool_sql.proofs.ReadableLemmas.{handed_on}
-use Rattle.spool.specs.declared.load_endpoints.Known.{Known}
+use Rattle.spool.specs.declared.load_endpoints.NamedPut.{NamedPut}
 use Rattle.spool_sql.specs.Stored.{topic_of}
 use Rattle.spool.specs.Loading.{HaveTopics, Subscribes, AreNames, IsNameOf, NextToSubscribe}
 use Rattle.spool.proofs.PageLaws.{map_itself, turned}
@@ -66,7 +66,7 @@ returns-in_default-clause-refused c records legal are next =
     c.deref.ensures.value ∙ ap (λ ks. ks.items) c.loop-row.invariant.names ∙ are in
     absurd (no_topic_missing records legal c.deref.result.now (topic_of c.in-Some.row) names
     (next_topic records legal c.loop-row.loaded (topic_of c.in-Some.row) row)
-    (subst (λ n. list_any (λ (known : Known). known.put == n) c.deref.result.now ≡ false) c.get.ensures.number
+    (subst (λ n. list_any (λ (known : NamedPut). known.put == n) c.deref.result.now ≡ false) c.get.ensures.number
     (c.name_of.ensures.missing c.in_default.is (names_rise records c.deref.result.now legal names))))
 
 pub returns-in_err-subscribe-clause-refused : goal.returns-in_err-subscribe-clause-refused

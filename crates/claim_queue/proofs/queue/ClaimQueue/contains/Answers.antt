@@ -8,8 +8,8 @@ pub returns-in-Some : goal.returns-in-Some
 returns-in-Some c =
     let at = sym (c.in-Some.ensures ∙ ap (λ lanes. lane_in lanes c.args.endpoint) c.deref.ensures.value) in
     let pair = pair_of c.args.endpoint c.args.due c.args.seq in
-    subst (λ q. c.has_turn.result ≡ is_held q pair) c.self.view_is
-    (c.has_turn.ensures ∙ sym (held_in c.self.inside.lanes.items c.in-Some.lane.now pair c.self.invariant.apart at))
+    subst (λ q. c.has_key.result ≡ is_held q pair) c.self.view_is
+    (c.has_key.ensures ∙ sym (held_in c.self.inside.lanes.items c.in-Some.lane.now pair c.self.invariant.apart at))
 
 pub returns-in-None : goal.returns-in-None
 returns-in-None c =

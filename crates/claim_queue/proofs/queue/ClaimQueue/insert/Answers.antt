@@ -1,10 +1,10 @@
 use Rattle.std.proofs.Common.{◌≡◌, ◌<◌, ◌∙◌, ◌||◌, Bool, ap, arith, false, refl, sym, slice_set, subst, true}
 use Rattle.std.specs.Prelude.{position}
-use Rattle.claim_queue.specs.declared.marks.Mark.{Mark}
-use Rattle.claim_queue.specs.Queues.{ChangesMark, Gains, IsNew, free_places, pair_of, place_taken}
+use Rattle.claim_queue.specs.declared.lane_state.LaneState.{LaneState}
+use Rattle.claim_queue.specs.Queues.{ChangesState, Gains, IsNew, free_places, pair_of, place_taken}
 use Rattle.claim_queue.specs.Lanes.{is_of, queue_of}
 use Rattle.claim_queue.proofs.LaneLaws.{lane_at, none_at, none_has, none_in}
-use Rattle.claim_queue.proofs.QueueLaws.{first_held, free_at, mark_changed, none_free, now_held, own_held, renewed}
+use Rattle.claim_queue.proofs.QueueLaws.{first_held, free_at, state_changed, none_free, now_held, own_held, renewed}
 use Rattle.claim_queue.proofs.queue.ClaimQueue.insert.Goals as goal
 
 or_none : (a : Bool) → (a || false) ≡ a
@@ -55,7 +55,7 @@ renew-requires-clause-unheld c =
     let is = c.index_mut-lane.ensures.value in
     own_held lanes c.self.inside.firsts.items _ _ c.args.endpoint held c.insert.new.self c.self.invariant
     (lane_at lanes c.args.endpoint c.in-Some.place held at is).0
-    (ap (λ (m : Mark). m.endpoint) c.insert.ensures.mark) c.first-before.result c.first-after.result
+    (ap (λ (m : LaneState). m.endpoint) c.insert.ensures.state) c.first-before.result c.first-after.result
     c.first-before.ensures c.first-after.ensures
 
 pub invariant_of-self : goal.invariant_of-self
@@ -66,7 +66,7 @@ invariant_of-self c =
     let is = c.index_mut-lane.ensures.value in
     renewed lanes c.self.inside.firsts.items _ _ c.args.endpoint c.in-Some.place held c.insert.new.self
     c.renew.new.firsts.items _ _ c.first-before.result c.first-after.result
-    c.self.invariant at is (ap (λ (m : Mark). m.endpoint) c.insert.ensures.mark) c.insert.ensures.sound
+    c.self.invariant at is (ap (λ (m : LaneState). m.endpoint) c.insert.ensures.state) c.insert.ensures.sound
     c.first-before.ensures c.first-after.ensures c.renew.ensures.order c.renew.ensures.pairs c.renew.ensures.len
     c.renew.ensures.capacity
 
@@ -80,18 +80,18 @@ returns-in-Some-clause-pairs c =
     (pair_of c.args.endpoint c.args.due c.args.seq)) c.self.view_is
     (now_held lanes c.args.endpoint c.in-Some.place held c.insert.new.self
     (record { due = c.args.due; seq = c.args.seq }) (λ a b. a || b) c.self.invariant.apart at is
-    (ap (λ (m : Mark). m.endpoint) c.insert.ensures.mark) or_none c.insert.ensures.turns)
+    (ap (λ (m : LaneState). m.endpoint) c.insert.ensures.state) or_none c.insert.ensures.keys)
 
-pub returns-in-Some-clause-mark : goal.returns-in-Some-clause-mark
-returns-in-Some-clause-mark c =
+pub returns-in-Some-clause-state : goal.returns-in-Some-clause-state
+returns-in-Some-clause-state c =
     let lanes = c.self.inside.lanes.items in
     let held = c.index_mut-lane.result.now in
     let at = c.in-Some.ensures ∙ ap (position (is_of c.args.endpoint)) c.deref.ensures.value in
     let is = c.index_mut-lane.ensures.value in
-    subst (λ q. ChangesMark q (queue_of (slice_set lanes c.in-Some.place c.insert.new.self)) c.args.endpoint
+    subst (λ q. ChangesState q (queue_of (slice_set lanes c.in-Some.place c.insert.new.self)) c.args.endpoint
     place_taken) c.self.view_is
-    (mark_changed lanes c.args.endpoint c.in-Some.place held c.insert.new.self place_taken
-    at is (ap (λ (m : Mark). m.endpoint) c.insert.ensures.mark) c.insert.ensures.mark)
+    (state_changed lanes c.args.endpoint c.in-Some.place held c.insert.new.self place_taken
+    at is (ap (λ (m : LaneState). m.endpoint) c.insert.ensures.state) c.insert.ensures.state)
 
 pub returns-in_default : goal.returns-in_default
 returns-in_default c =

@@ -2,7 +2,7 @@ use Rattle.std.proofs.Common.{◌≡◌, ◌∙◌, ap, sym, subst}
 use Rattle.std.specs.Prelude.{is_some}
 use Rattle.claim_queue.specs.Queues.{is_reserved}
 use Rattle.claim_queue.specs.Lanes.{lane_in}
-use Rattle.claim_queue.proofs.LaneLaws.{marked}
+use Rattle.claim_queue.proofs.LaneLaws.{state_is}
 use Rattle.claim_queue.proofs.QueueLaws.{some_map}
 use Rattle.claim_queue.proofs.queue.ClaimQueue.is_reserved.Goals as goal
 
@@ -12,4 +12,4 @@ returns c =
     subst (λ q. c.is_some.result ≡ is_reserved q c.args.endpoint) c.self.view_is
     (c.is_some.ensures ∙ sym (some_map (λ lent. lent.now) c.lane_of.result)
     ∙ ap is_some (c.lane_of.ensures ∙ ap (λ all. lane_in all c.args.endpoint) c.deref.ensures.value)
-    ∙ sym (ap is_some (marked lanes c.args.endpoint) ∙ some_map (λ lane. lane.mark) (lane_in lanes c.args.endpoint)))
+    ∙ sym (ap is_some (state_is lanes c.args.endpoint) ∙ some_map (λ lane. lane.state) (lane_in lanes c.args.endpoint)))

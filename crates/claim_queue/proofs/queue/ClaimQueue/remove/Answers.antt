@@ -1,10 +1,10 @@
 use Rattle.std.proofs.Common.{◌≡◌, ◌+◌, ◌∙◌, ◌&&◌, Bool, ap, false, not, refl, sym, slice_set, subst, true}
 use Rattle.std.specs.Prelude.{position}
-use Rattle.claim_queue.specs.declared.marks.Mark.{Mark}
-use Rattle.claim_queue.specs.Queues.{ChangesMark, Loses, free_places, is_held, pair_of, place_given}
+use Rattle.claim_queue.specs.declared.lane_state.LaneState.{LaneState}
+use Rattle.claim_queue.specs.Queues.{ChangesState, Loses, free_places, is_held, pair_of, place_given}
 use Rattle.claim_queue.specs.Lanes.{is_of, queue_of}
 use Rattle.claim_queue.proofs.LaneLaws.{lane_at, none_at}
-use Rattle.claim_queue.proofs.QueueLaws.{first_held, free_at, free_set, held_in, held_in_none, mark_changed, now_held}
+use Rattle.claim_queue.proofs.QueueLaws.{first_held, free_at, free_set, held_in, held_in_none, state_changed, now_held}
 use Rattle.claim_queue.proofs.QueueLaws.{own_held, renewed}
 use Rattle.claim_queue.proofs.queue.ClaimQueue.remove.Goals as goal
 
@@ -47,7 +47,7 @@ renew-requires-clause-unheld c =
     let is = c.index_mut-lane.ensures.value in
     own_held lanes c.self.inside.firsts.items _ _ c.args.endpoint held c.remove.new.self c.self.invariant
     (lane_at lanes c.args.endpoint c.in-Some.place held at is).0
-    (ap (λ (m : Mark). m.endpoint) c.remove.ensures.mark) c.first-before.result c.first-after.result
+    (ap (λ (m : LaneState). m.endpoint) c.remove.ensures.state) c.first-before.result c.first-after.result
     c.first-before.ensures c.first-after.ensures
 
 pub invariant_of-self : goal.invariant_of-self
@@ -58,7 +58,7 @@ invariant_of-self c =
     let is = c.index_mut-lane.ensures.value in
     renewed lanes c.self.inside.firsts.items _ _ c.args.endpoint c.in-Some.place held c.remove.new.self
     c.renew.new.firsts.items _ _ c.first-before.result c.first-after.result
-    c.self.invariant at is (ap (λ (m : Mark). m.endpoint) c.remove.ensures.mark) c.remove.ensures.sound
+    c.self.invariant at is (ap (λ (m : LaneState). m.endpoint) c.remove.ensures.state) c.remove.ensures.sound
     c.first-before.ensures c.first-after.ensures c.renew.ensures.order c.renew.ensures.pairs c.renew.ensures.len
     c.renew.ensures.capacity
 
@@ -72,18 +72,18 @@ returns-in-Some-clause-pairs c =
     (pair_of c.args.endpoint c.args.due c.args.seq)) c.self.view_is
     (now_held lanes c.args.endpoint c.in-Some.place held c.remove.new.self
     (record { due = c.args.due; seq = c.args.seq }) (λ a b. a && not b) c.self.invariant.apart at is
-    (ap (λ (m : Mark). m.endpoint) c.remove.ensures.mark) and_all c.remove.ensures.turns)
+    (ap (λ (m : LaneState). m.endpoint) c.remove.ensures.state) and_all c.remove.ensures.keys)
 
-pub returns-in-Some-clause-mark : goal.returns-in-Some-clause-mark
-returns-in-Some-clause-mark c =
+pub returns-in-Some-clause-state : goal.returns-in-Some-clause-state
+returns-in-Some-clause-state c =
     let lanes = c.self.inside.lanes.items in
     let held = c.index_mut-lane.result.now in
     let at = c.in-Some.ensures ∙ ap (position (is_of c.args.endpoint)) c.deref.ensures.value in
     let is = c.index_mut-lane.ensures.value in
-    subst (λ q. ChangesMark q (queue_of (slice_set lanes c.in-Some.place c.remove.new.self)) c.args.endpoint
+    subst (λ q. ChangesState q (queue_of (slice_set lanes c.in-Some.place c.remove.new.self)) c.args.endpoint
     place_given) c.self.view_is
-    (mark_changed lanes c.args.endpoint c.in-Some.place held c.remove.new.self place_given
-    at is (ap (λ (m : Mark). m.endpoint) c.remove.ensures.mark) c.remove.ensures.mark)
+    (state_changed lanes c.args.endpoint c.in-Some.place held c.remove.new.self place_given
+    at is (ap (λ (m : LaneState). m.endpoint) c.remove.ensures.state) c.remove.ensures.state)
 
 pub returns-in-Some-clause-place : goal.returns-in-Some-clause-place
 returns-in-Some-clause-place c =
@@ -92,8 +92,8 @@ returns-in-Some-clause-place c =
     let at = c.in-Some.ensures ∙ ap (position (is_of c.args.endpoint)) c.deref.ensures.value in
     let is = c.index_mut-lane.ensures.value in
     free_set lanes c.args.endpoint c.in-Some.place held c.remove.new.self
-    at is (ap (λ (m : Mark). m.endpoint) c.remove.ensures.mark)
-    ∙ ap (λ (m : Mark). m.free) c.remove.ensures.mark
+    at is (ap (λ (m : LaneState). m.endpoint) c.remove.ensures.state)
+    ∙ ap (λ (m : LaneState). m.free) c.remove.ensures.state
     ∙ ap (λ n. n + 1) (sym
     (free_at lanes c.args.endpoint held (lane_at lanes c.args.endpoint c.in-Some.place held at is).0))
     ∙ ap (λ q. free_places q c.args.endpoint + 1) c.self.view_is

@@ -1,10 +1,10 @@
 use Rattle.std.proofs.Common.{◌∙◌, ap, refl, sym, slice_set, subst}
 use Rattle.std.specs.Prelude.{position}
 use Rattle.claim_queue.specs.declared.lanes.Lane.{Lane}
-use Rattle.claim_queue.specs.Queues.{ChangesMark, HasSamePairs, is_reserved, with_room}
+use Rattle.claim_queue.specs.Queues.{ChangesState, HasSamePairs, is_reserved, with_room}
 use Rattle.claim_queue.specs.Lanes.{is_of, queue_of}
 use Rattle.claim_queue.proofs.LaneLaws.{lane_at, none_at}
-use Rattle.claim_queue.proofs.QueueLaws.{first_held, mark_changed, none_reserved, own_held, renewed, same_pairs}
+use Rattle.claim_queue.proofs.QueueLaws.{first_held, state_changed, none_reserved, own_held, renewed, same_pairs}
 use Rattle.claim_queue.proofs.queue.ClaimQueue.set_room.Goals as goal
 
 pub renew-requires-clause-held : goal.renew-requires-clause-held
@@ -23,7 +23,7 @@ renew-requires-clause-unheld c =
     let at = c.in-Some.ensures ∙ ap (position (is_of c.args.endpoint)) c.deref.ensures.value in
     let is = c.index_mut-lane.ensures.value in
     own_held lanes c.self.inside.firsts.items _ _ c.args.endpoint held
-    (record held { mark = with_room c.args.room held.mark }) c.self.invariant
+    (record held { state = with_room c.args.room held.state }) c.self.invariant
     (lane_at lanes c.args.endpoint c.in-Some.place held at is).0 refl c.first-before.result c.first-after.result
     c.first-before.ensures c.first-after.ensures
 
@@ -33,7 +33,7 @@ invariant_of-self c =
     let held = c.index_mut-lane.result.now in
     let at = c.in-Some.ensures ∙ ap (position (is_of c.args.endpoint)) c.deref.ensures.value in
     let is = c.index_mut-lane.ensures.value in
-    let new : Lane = record held { mark = with_room c.args.room held.mark } in
+    let new : Lane = record held { state = with_room c.args.room held.state } in
     let sound = c.self.invariant.sound c.args.endpoint held (lane_at lanes c.args.endpoint c.in-Some.place held at is).0
     in
     renewed lanes c.self.inside.firsts.items _ _ c.args.endpoint c.in-Some.place held new c.renew.new.firsts.items _ _
@@ -47,24 +47,24 @@ returns-in-Some-clause-pairs c =
     let held = c.index_mut-lane.result.now in
     let at = c.in-Some.ensures ∙ ap (position (is_of c.args.endpoint)) c.deref.ensures.value in
     let is = c.index_mut-lane.ensures.value in
-    let new : Lane = record held { mark = with_room c.args.room held.mark } in
+    let new : Lane = record held { state = with_room c.args.room held.state } in
     subst (λ q. HasSamePairs q (queue_of (slice_set lanes c.in-Some.place new))) c.self.view_is
     (λ pair. same_pairs lanes c.in-Some.place held new pair
     is (lane_at lanes c.args.endpoint c.in-Some.place held at is).1 refl refl)
 
-pub returns-in-Some-clause-mark : goal.returns-in-Some-clause-mark
-returns-in-Some-clause-mark c =
+pub returns-in-Some-clause-state : goal.returns-in-Some-clause-state
+returns-in-Some-clause-state c =
     let lanes = c.self.inside.lanes.items in
     let held = c.index_mut-lane.result.now in
     let at = c.in-Some.ensures ∙ ap (position (is_of c.args.endpoint)) c.deref.ensures.value in
     let is = c.index_mut-lane.ensures.value in
-    let new : Lane = record held { mark = with_room c.args.room held.mark } in
-    subst (λ q. ChangesMark q (queue_of (slice_set lanes c.in-Some.place new)) c.args.endpoint (with_room c.args.room))
+    let new : Lane = record held { state = with_room c.args.room held.state } in
+    subst (λ q. ChangesState q (queue_of (slice_set lanes c.in-Some.place new)) c.args.endpoint (with_room c.args.room))
     c.self.view_is
-    (mark_changed lanes c.args.endpoint c.in-Some.place held new (with_room c.args.room) at is refl refl)
+    (state_changed lanes c.args.endpoint c.in-Some.place held new (with_room c.args.room) at is refl refl)
 
-pub returns-in_default-clause-mark : goal.returns-in_default-clause-mark
-returns-in_default-clause-mark c =
+pub returns-in_default-clause-state : goal.returns-in_default-clause-state
+returns-in_default-clause-state c =
     let lanes = c.self.inside.lanes.items in
     let none = none_at lanes c.args.endpoint (sym c.in_default.is ∙ c.place_of.ensures
     ∙ ap (position (is_of c.args.endpoint)) c.deref.ensures.value) in

@@ -1,5 +1,5 @@
 use Rattle.desk.proofs.Words.{◌≡◌, ◌<◌, ◌+◌, ◌∙◌, ℕ, false, true, List, length, sym, refl, ap, arith, subst, IsTrue}
-use Rattle.desk.proofs.Words.{Result, Err, IfSome, MAX_RECORDS, ChangesMark, is_held, with_room, record_count}
+use Rattle.desk.proofs.Words.{Result, Err, IfSome, MAX_RECORDS, ChangesState, is_held, with_room, record_count}
 use Rattle.desk.proofs.Words.{DeskValue, Limiter, limit_by, room_by}
 use Rattle.permits.specs.declared.refusal.Refused.{Refused}
 use Rattle.permits.specs.declared.refusal.Refused.TheVariants.{AtLimit, TooManyOut, AlreadyOut}
@@ -50,7 +50,7 @@ invariant_of-self g c =
     (subst (λ (v : DeskValue). record_count v.waiting + length v.live < MAX_RECORDS) (sym c.self.view_is)
     c.requires.room)
     c.in-Ok.ensures.ok c.dequeue.ensures.pair c.dequeue.ensures.places c.update_room.ensures.pairs
-    (subst (λ (limiters : List Limiter). ChangesMark c.dequeue.new.queue c.update_room.new.queue c.args.endpoint
+    (subst (λ (limiters : List Limiter). ChangesState c.dequeue.new.queue c.update_room.new.queue c.args.endpoint
     (with_room (room_by c.self.inside.endpoints limiters c.acquire.new.self c.args.endpoint)))
     c.deref-2.ensures.value
-    c.update_room.ensures.mark)
+    c.update_room.ensures.state)

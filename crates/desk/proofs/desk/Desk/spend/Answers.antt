@@ -1,5 +1,5 @@
 use Rattle.desk.proofs.Words.{◌≡◌, ◌∙◌, ℕ, Option, List, false, true, ap, max, refl, rules, sym, subst, IfSome, IsTrue}
-use Rattle.desk.proofs.Words.{vec_len, is_status, is_moment, QueueValue, ChangesMark, IsNew, with_room, Limiter}
+use Rattle.desk.proofs.Words.{vec_len, is_status, is_moment, QueueValue, ChangesState, IsNew, with_room, Limiter}
 use Rattle.desk.proofs.Words.{DeskValue, IsDesk, AreLimiters, AreSampled, HasPlaces, Holds, idle_pair, limit_by}
 use Rattle.desk.proofs.Words.{room_by, status_of}
 use Rattle.desk.specs.declared.desk.Desk.TheInside.{Inside}
@@ -89,9 +89,9 @@ module _ (g : Over) (c : After-update_room g) where
       c.in_ok-row.row c.give_back.new.self c.args.post c.moment-at.result c.if-self.staged
       c.self.invariant (back g at.In_ok-row) (over g at.After-limit_of-limit) (holds g at.After-enqueue)
       c.enqueue.ensures.places c.update_room.ensures.pairs
-      (subst (λ (ls : List Limiter). ChangesMark c.enqueue.new.queue c.update_room.new.queue c.in_ok-row.row.endpoint
+      (subst (λ (ls : List Limiter). ChangesState c.enqueue.new.queue c.update_room.new.queue c.in_ok-row.row.endpoint
       (with_room (room_by m.endpoints ls m.live c.in_ok-row.row.endpoint))) c.deref-2.ensures.value
-      c.update_room.ensures.mark)
+      c.update_room.ensures.state)
 
 pub returns-in_err-row-clause-moves : goal.returns-in_err-row-clause-moves
 returns-in_err-row-clause-moves g c =

@@ -10,11 +10,12 @@ invariant_of-self-2 g c =
     c.push_request.ensures.staged
     c.pending-pending.ensures.value
     (omega (arith, c.requires.room, ap (λ (v : DeskValue). record_count v.waiting + length v.live) c.self.view_is))
-    c.in_ok-reserve.ensures.pairs c.in_ok-reserve.ensures.mark c.self.invariant
+    c.in_ok-reserve.ensures.pairs c.in_ok-reserve.ensures.state c.self.invariant
 
 pub invariant_of-self-in_err-stage_accept : goal.invariant_of-self-in_err-stage_accept
 invariant_of-self-in_err-stage_accept g c =
     subst (λ book. IsDesk c.self.inside.endpoints book c.self.inside.waiting c.self.inside.pool
     c.self.inside.limiters.items c.reserve.new.self) (sym c.in_err-stage_accept.ensures.unchanged)
-    (desk_reserved c.args.name (c.pending-pending.result + 1) c.in_ok-reserve.ensures.pairs c.in_ok-reserve.ensures.mark
+    (desk_reserved c.args.name (c.pending-pending.result + 1) c.in_ok-reserve.ensures.pairs
+    c.in_ok-reserve.ensures.state
     c.self.invariant)
