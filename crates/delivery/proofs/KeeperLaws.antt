@@ -12,7 +12,7 @@ use Rattle.spool.specs.declared.faults.Unchanged.{Unchanged}
 use Rattle.spool.specs.declared.faults.Unchanged.TheVariants as why
 use Rattle.spool.specs.Batches.{BatchValue}
 use Rattle.spool.specs.Commits.{HoldsOnDisk, LeavesHistory}
-use Rattle.spool.specs.Entering.{RestsInDoubt}
+use Rattle.spool.specs.Writing.{RestsInDoubt}
 use Rattle.spool.specs.Vaults.{VaultValue}
 use Rattle.delivery.specs.declared.committer.CommitterEnd.{CommitterEnd}
 use Rattle.delivery.specs.declared.committer.CommitterEnd.TheVariants.{Halted}

@@ -17,7 +17,7 @@ use Rattle.spool.specs.declared.faults.CommitEnd.TheVariants as ends
 use Rattle.spool.specs.declared.faults.Unchanged.{Unchanged}
 use Rattle.spool.specs.declared.faults.Unchanged.TheVariants as why
 use Rattle.spool.specs.Commits.{IsNext, IsDoubt, IsIllegal, LeavesHistory}
-use Rattle.spool.specs.Entering.{RestsInDoubt}
+use Rattle.spool.specs.Writing.{RestsInDoubt}
 use Rattle.spool.specs.Vaults.{VaultValue}
 use Rattle.script_lines.specs.declared.reply.Reply.{Reply}
 use Rattle.script_lines.specs.declared.reply.Reply.TheVariants as says

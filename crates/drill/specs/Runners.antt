@@ -9,7 +9,7 @@ use Rattle.spool.specs.Batches.{BatchValue, doubt_of}
 use Rattle.spool.specs.declared.faults.Unchanged.{Unchanged}
 use Rattle.spool.specs.declared.faults.Unchanged.TheVariants as why
 use Rattle.spool.specs.Commits.{IsNext}
-use Rattle.spool.specs.Entering.{RestsInDoubt}
+use Rattle.spool.specs.Writing.{RestsInDoubt}
 use Rattle.spool.specs.Vaults.{VaultValue}
 use Rattle.script_lines.specs.declared.reply.Fault.TheVariants as fault
 use Rattle.script_lines.specs.declared.reply.Reply.{Reply}

@@ -18,7 +18,7 @@ use Rattle.relay_types.specs.Sound.{AreKeyed, are_sound, history_from}
 use Rattle.relay_types.proofs.HistoryLaws.{of_a_history}
 use Rattle.relay_types.proofs.KnownLaws.{legal_front}
 use Rattle.spool_sql.proofs.RefusalLemmas.{was_refusal}
-use Rattle.sound_tables.proofs.BothRefused.{was_since}
+use Rattle.spool_sql.proofs.BothRefused.{was_since}
 use Rattle.spool_sql.specs.Stored.{IsTables}
 use Rattle.spool_sql.specs.Tables.{IsOwn}
 use Rattle.spool.specs.Adopting.{IsOnlyRead, LeavesRead, IsOfStore, unloaded_fault}

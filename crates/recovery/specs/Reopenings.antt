@@ -9,9 +9,9 @@ use Rattle.relay_types.specs.Legal.{IsLegal}
 use Rattle.relay_types.specs.Rows.{Rows, rows_of}
 use Rattle.relay_types.specs.Sound.{history_from}
 use Rattle.spool_sql.specs.Readable.{WasRefusal}
-use Rattle.spool.specs.Entering.{LeavesAsBefore}
+use Rattle.spool.specs.Writing.{LeavesAsBefore}
 use Rattle.spool.specs.Migrating.{AreSoundRows, HaveRows, IsUnmigrated, MayMigrate}
-use Rattle.spool.specs.Loading.{greatest_of}
+use Rattle.spool_load.specs.Loading.{greatest_of}
 use Rattle.spool.specs.Vaults.{VaultValue, Holds}
 use Rattle.spool.specs.declared.faults.OpenFault.{OpenFault}
 use Rattle.spool.specs.declared.faults.OpenFault.TheVariants.{NewerVersion, Damaged, Store, OutOfMemory}

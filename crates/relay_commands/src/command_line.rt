@@ -7,10 +7,7 @@ ghost use Rattle.relay_commands.specs.declared.command_line.Outcome.TheVariants.
 ghost use Rattle.command_interface.specs.declared.exit_status.CommandFault.TheVariants.{Ended};
 ghost use Rattle.relay_commands.specs.CommandLine.{IsServeFor, IsForNoServe, IsShownAs};
 
-use crate::check_command::check_file;
 use crate::replay_command::replay;
-use crate::sign_command::sign;
-use crate::vegas_command::vegas;
 use clap::error::{Error, ErrorKind};
 use clap::{Arg, ArgAction, ArgMatches, Command};
 use command_interface::{CommandFault, ServeWords, USAGE, end, read_serve, serve_syntax};
@@ -19,6 +16,7 @@ use std::alloc::{AllocError, Global};
 use std::convert::AsStr;
 use std::io::{Read, Write};
 use text_lines::StreamFault;
+use tool_commands::{check_file, sign, vegas};
 
 /// What `--version` prints after the program's name.
 pub const VERSION: &str = "0.1.0";

@@ -11,7 +11,7 @@ use Rattle.spool_sql.specs.Steps as tables
 use Rattle.spool_sql.specs.Steps.{MayLeave}
 use Rattle.spool.specs.Adopting.{IsOnlyRead}
 use Rattle.spool.specs.Commits.{HoldsOnDisk}
-use Rattle.spool.specs.Entering.{RestsInDoubt}
+use Rattle.spool.specs.Writing.{RestsInDoubt}
 use Rattle.spool.specs.Vaults.{VaultValue}
 use Rattle.delivery.specs.Keepers.{AddsRecords, AppendsBatches, KeepsLog, HoldsAtEnd, records_in}
 use Rattle.delivery.specs.declared.committer.CommitterEnd.{CommitterEnd}

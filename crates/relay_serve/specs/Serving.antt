@@ -8,7 +8,7 @@ use Rattle.relay_types.specs.Rows.{rows_of}
 use Rattle.spool_sql.specs.Steps as tables
 use Rattle.spool_sql.specs.Steps.{IfClean, MayLeave}
 use Rattle.spool.specs.Commits.{HoldsOnDisk}
-use Rattle.spool.specs.Entering.{RestsInDoubt}
+use Rattle.spool.specs.Writing.{RestsInDoubt}
 use Rattle.spool.specs.Vaults.{VaultValue}
 use Rattle.desk.specs.Desks.{DeskValue, StandsFor}
 use Rattle.desk.specs.World.{World, settled_records}

@@ -1,4 +1,3 @@
-pub mod BothRefused
 pub mod ReadingLemmas
 pub mod Texts
 pub mod KeyOrder

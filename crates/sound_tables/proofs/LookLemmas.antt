@@ -15,7 +15,7 @@ use Rattle.sound_tables.specs.declared.stored.StoredRows.{StoredRows}
 use Rattle.sound_tables.specs.Reading.{Looks, Reads}
 use Rattle.sound_tables.specs.Versions.{number_of}
 use Rattle.sound_tables.specs.declared.version.Version.{Version}
-use Rattle.sound_tables.proofs.BothRefused.{refusal_since}
+use Rattle.spool_sql.proofs.BothRefused.{refusal_since}
 use Rattle.sound_tables.proofs.ReadingLemmas.{IsStill, looks_failed}
 
 -- the first look changed nothing

@@ -17,7 +17,7 @@ use Rattle.sqlite.specs.State.{IsNoStatement, IsUnchanged, IsRolledBack, Survive
 use Rattle.sqlite.proofs.Callers.{unchanged_then}
 use Rattle.sqlite.proofs.StateLemmas.{unchanged, survives_then, survives_weaker}
 use Rattle.spool_sql.proofs.RefusalLemmas.{of_failure}
-use Rattle.sound_tables.proofs.BothRefused.{refusal_since}
+use Rattle.spool_sql.proofs.BothRefused.{refusal_since}
 use Rattle.sound_tables.specs.Reading.{Shows, Fits, IsPlainText, IsAnswerable, IsFault, HasTaken, Looks}
 
 -- ---- what a query that reads tells, of each database that is the same

@@ -8,7 +8,7 @@ use Rattle.spool.specs.declared.transaction.WriteEnd.{WriteEnd}
 use Rattle.spool.specs.declared.transaction.WriteEnd.TheVariants.{Committed, Illegal, OutOfMemory, Doubtful}
 use Rattle.spool.specs.Batches.{BatchValue}
 use Rattle.spool.specs.Vaults.{VaultValue}
-use Rattle.spool.specs.Entering.{HasCause, WriteEndsAs}
+use Rattle.spool.specs.Writing.{HasCause, WriteEndsAs}
 use Rattle.spool.specs.Commits.{IsDoubtedFor, LeavesRows, LeavesHistory, answer_of}
 use Rattle.spool.proofs.VaultLemmas.{rows_made, rows_doubted, history_made, history_unwritten}
 

@@ -31,21 +31,22 @@ use Rattle.spool_sql.specs.Readable.{WasRefusal, WasRowRefusal}
 use Rattle.spool_sql.specs.Steps.{Spares, Stands}
 use Rattle.spool_sql.proofs.RefusalLemmas.{of_failure, was_refusal}
 use Rattle.spool_sql.specs.Stored.{IsTables}
-use Rattle.spool.specs.Loading.{AreAccepted, AreAttempted, AreNames, AreRestored, AreSubscribed, IsReadRefusal}
-use Rattle.spool.specs.Loading.{WasReadRefusal, entry_of_row}
+use Rattle.spool_load.specs.Loading.{AreAccepted, AreAttempted, AreNames, AreRestored, AreSubscribed, IsReadRefusal}
+use Rattle.spool_load.specs.Loading.{WasReadRefusal, entry_of_row}
 use Rattle.spool_sql.proofs.StepLemmas.{leaves_along, leaves_commit}
-use Rattle.spool.proofs.PageLaws.{legal_length}
-use Rattle.spool.proofs.QuietReads.{IsQuiet, clean_before, quiet_then, tables_along}
-use Rattle.sound_tables.proofs.BothRefused.{refusal_since, was_until}
+use Rattle.spool_sql.proofs.PageLaws.{legal_length}
+use Rattle.spool_load.proofs.QuietReads.{IsQuiet, clean_before, quiet_then, tables_along}
+use Rattle.spool_sql.proofs.BothRefused.{refusal_since, was_until}
 use Rattle.spool.specs.Vaults.{VaultValue, Holds}
 use Rattle.spool.specs.Adopting.{IsOnlyRead}
 use Rattle.spool.specs.Commits.{HoldsOnDisk}
-use Rattle.spool.specs.Books.{AreBooks, IsLoadRefusal, IsSeen, KeepsOpen, LeavesHeld, TellsLoad, error_of}
+use Rattle.spool.specs.Books.{AreBooks, IsLoadRefusal, IsSeen, KeepsOpen, LeavesHeld, TellsLoad}
+use Rattle.spool_sql.specs.Reading.{error_of}
 use Rattle.spool.specs.declared.faults.LoadFault.{LoadFault}
 use Rattle.spool.specs.declared.faults.LoadFault.TheVariants.{Closed, Store, OutOfMemory}
 use Rattle.spool.specs.declared.load.Books.{Books}
-use Rattle.spool.specs.declared.deliveries.Deliveries.{Deliveries}
-use Rattle.spool.specs.declared.load_endpoints.Endpoints.{Endpoints}
+use Rattle.spool_load.specs.declared.deliveries.Deliveries.{Deliveries}
+use Rattle.spool_load.specs.declared.endpoints.Endpoints.{Endpoints}
 
 none_changed : (place : ℕ) (es : List EndpointEntry) → map (λ (e : EndpointEntry). settled_at place [] e.name e) es ≡ es
 none_changed place [] = refl

@@ -17,11 +17,12 @@ use Rattle.spool_sql.specs.Stored.{IsTables}
 use Rattle.spool_sql.specs.Steps.{MayLeave, Spares, Stands}
 use Rattle.spool_sql.proofs.RefusalLemmas.{of_failure}
 use Rattle.spool_sql.proofs.StepLemmas.{leaves_commit, leaves_along, stands_along}
-use Rattle.sound_tables.proofs.BothRefused.{refusal_since, refusal_until}
+use Rattle.spool_sql.proofs.BothRefused.{refusal_since, refusal_until}
 use Rattle.spool.specs.Vaults.{HoldsAt}
 use Rattle.spool.specs.Books.{KeepsOpen}
-use Rattle.spool.specs.Entering.{AsksForLook, EntersWhole, Commits, CommitsAll, HasCause, IsCause, LeavesAsBefore}
-use Rattle.spool.specs.Entering.{StaysAs, Rests, RestsInDoubt, WriteEndsAs, IsUnwritten, Tells}
+use Rattle.spool_write.specs.Entering.{EntersWhole}
+use Rattle.spool.specs.Writing.{AsksForLook, Commits, CommitsAll, HasCause, IsCause, LeavesAsBefore}
+use Rattle.spool.specs.Writing.{StaysAs, Rests, RestsInDoubt, WriteEndsAs, IsUnwritten, Tells}
 use Rattle.spool.specs.declared.transaction.WriteEnd.{WriteEnd}
 use Rattle.spool.specs.declared.transaction.WriteEnd.TheVariants.{Committed, Illegal, OutOfMemory, Doubtful}
 

@@ -4,8 +4,8 @@ use Rattle.sqlite.specs.declared.error.Error.{Error}
 use Rattle.sqlite.specs.Tree.{Trees}
 use Rattle.sqlite.specs.State.{State, HasCleanDisk, IsUnchanged, Survives}
 use Rattle.spool_sql.proofs.RefusalLemmas.{of_failure}
-use Rattle.sound_tables.proofs.BothRefused.{refusal_since}
-use Rattle.spool.specs.Entering.{IsCause}
+use Rattle.spool_sql.proofs.BothRefused.{refusal_since}
+use Rattle.spool.specs.Writing.{IsCause}
 use Rattle.spool.proofs.CommitLemmas.{caused_until}
 use Rattle.spool.specs.Opening.{has_ours, IsBack, Founded, LeavesAt, TellsFault}
 use Rattle.spool.specs.declared.faults.OpenFault.{OpenFault}

@@ -14,7 +14,7 @@ use Rattle.sound_tables.specs.Checks.{AreSoundFirstTables, AreSoundTables, IsOld
 use Rattle.sound_tables.specs.Checks.{RefusesFirst, RefusesOld, RefusesSound}
 use Rattle.sound_tables.specs.declared.fault.TableFault.{TableFault}
 use Rattle.sound_tables.specs.declared.fault.TableFault.TheVariants as table
-use Rattle.sound_tables.proofs.BothRefused.{refusal_since, refusal_until}
+use Rattle.spool_sql.proofs.BothRefused.{refusal_since, refusal_until}
 use Rattle.sound_tables.proofs.RefusedLemmas.{not_other}
 use Rattle.spool.specs.Adopting.{HaveFirstHistory, HaveHistory, IsOfStore, IsOldOrOfStore, IsToldAs, TellsCheck}
 use Rattle.spool.specs.Adopting.{fault_by, fault_of}

@@ -25,14 +25,14 @@ use Rattle.spool_sql.specs.Tables.{IsOwn, first_schema, relay_schema}
 use Rattle.sound_tables.specs.Checks as tables
 use Rattle.sound_tables.specs.declared.fault.TableFault.{TableFault}
 use Rattle.sound_tables.specs.declared.fault.TableFault.TheVariants as table
-use Rattle.sound_tables.proofs.BothRefused.{refusal_since}
+use Rattle.spool_sql.proofs.BothRefused.{refusal_since}
 use Rattle.sound_tables.specs.Keys.{has_first_tables, has_tables}
 use Rattle.sound_tables.proofs.KeyedLemmas.{never_nameless}
 use Rattle.sound_tables.proofs.RefusedLemmas.{meta_tells, one_told}
 use Rattle.spool.specs.Adopting.{AreAdopted, IsOfStore, IsOldOrOfStore, IsOnlyRead, IsReadOpen, IsUnadopted}
 use Rattle.spool.specs.Adopting.{IsToldAs, LeavesRead, TellsCheck, fault_by, fault_of}
 use Rattle.spool.specs.Vaults.{HoldsAt}
-use Rattle.spool.specs.Entering.{IsCause}
+use Rattle.spool.specs.Writing.{IsCause}
 use Rattle.spool.specs.Books.{KeepsOpen}
 use Rattle.spool.specs.Migrating.{AreMigrated, AreSoundIfFirst, AreSoundRows, HaveRows, IsFirstUnadopted}
 use Rattle.spool.specs.Migrating.{IsFirstUnmigrated, IsMigratedTo, IsUnmade, IsUnmadeFor, IsUnmigrated, KeepsRows}

@@ -4,7 +4,7 @@ use Rattle.sqlite.specs.State.{State}
 use Rattle.relay_types.specs.declared.record.Record.{Record}
 use Rattle.relay_types.specs.Rows.{Rows, rows_of, put_rows}
 use Rattle.spool_sql.specs.Steps.{Stands, MayLeave}
-use Rattle.spool.specs.Entering.{Rests, RestsInDoubt, WriteEndsAs}
+use Rattle.spool.specs.Writing.{Rests, RestsInDoubt, WriteEndsAs}
 use Rattle.spool.specs.Vaults.{HoldsAt}
 use Rattle.spool.specs.declared.transaction.WriteEnd.TheVariants.{Committed}
 use Rattle.relay_types.proofs.RowLaws.{rows_of-all}

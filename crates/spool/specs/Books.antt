@@ -1,8 +1,6 @@
 -- What a load answers, and what it leaves of a vault.
 use Rattle.std.specs.Prelude.{◌≡◌, ◌≤◌, ◌⊎◌, ℕ, List, [], codes, length, IsTrue, Result, Ok, Err}
 use Rattle.sqlite.specs.declared.error.Error.{Error}
-use Rattle.sqlite.specs.declared.error.Error.TheVariants.{SqliteFailure}
-use Rattle.sqlite.specs.declared.error.ErrorCode.TheVariants.{DatabaseCorrupt}
 use Rattle.sqlite.specs.State.{State, HasCleanDisk, Fails}
 use Rattle.sqlite.specs.Held.{state}
 use Rattle.sqlite_trees.specs.declared.store.Store.{Ghosts}
@@ -14,17 +12,17 @@ use Rattle.endpoint_book.specs.Entries.{flags_in}
 use Rattle.endpoint_book.specs.Book.{StandsFor as StandsForEndpoints}
 use Rattle.delivery_book.specs.Book.{StandsFor as StandsForDeliveries}
 use Rattle.spool_sql.specs.declared.row.RowFault.{RowFault}
-use Rattle.spool_sql.specs.declared.row.RowFault.TheVariants.{Failed, Unreadable}
 use Rattle.spool_sql.specs.declared.cause.Cause.TheVariants.{Memory}
 use Rattle.spool_sql.specs.Causes.{cause}
 use Rattle.spool_sql.specs.Readable.{WasRefusal}
+use Rattle.spool_sql.specs.Reading.{error_of}
 use Rattle.spool_sql.specs.Steps.{Stands, MayLeave}
 use Rattle.spool.specs.declared.faults.LoadFault.{LoadFault}
 use Rattle.spool.specs.declared.faults.LoadFault.TheVariants.{Closed, Store, OutOfMemory}
 use Rattle.spool.specs.declared.load.Books.{Books}
-use Rattle.spool.specs.Loading.{greatest_of}
+use Rattle.spool_load.specs.Loading.{greatest_of}
 use Rattle.spool.specs.Vaults.{VaultValue, Holds}
-use Rattle.spool.specs.Entering.{StaysAs}
+use Rattle.spool.specs.Writing.{StaysAs}
 use Rattle.spool.specs.Commits.{HoldsOnDisk}
 
 -- the books stand for this history, all of it settled
@@ -93,11 +91,6 @@ abbrev pub load_fault_name : LoadFault → List ℕ
 load_fault_name Closed = codes "Closed"
 load_fault_name (Store cause) = codes "Store"
 load_fault_name OutOfMemory = codes "OutOfMemory"
-
--- the error of the store as which a fault is told
-abbrev pub error_of : RowFault → Error
-error_of (Failed error) = error
-error_of Unreadable = SqliteFailure DatabaseCorrupt
 
 -- a look at the store is owed after reads that were answered, or refused for memory
 abbrev pub AsksForLookBehind : Result Books RowFault → Type 0

@@ -14,7 +14,7 @@ use Rattle.spool.specs.declared.faults.Unchanged.TheVariants as why
 use Rattle.spool.specs.declared.transaction.WriteEnd.{WriteEnd}
 use Rattle.spool.specs.declared.transaction.WriteEnd.TheVariants.{Committed, Illegal, OutOfMemory, Doubtful}
 use Rattle.spool.specs.Batches.{BatchValue, doubt_of}
-use Rattle.spool.specs.Entering.{IsCause, Rests, RestsInDoubt}
+use Rattle.spool.specs.Writing.{IsCause, Rests, RestsInDoubt}
 use Rattle.spool.specs.Vaults.{VaultValue, Holds}
 
 -- the vault holds this history, and a stop leaves its rows

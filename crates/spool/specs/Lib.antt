@@ -1,9 +1,7 @@
 pub mod Adopting
 pub mod Batches
 pub mod Vaults
-pub mod Entering
-pub mod Reading
-pub mod Loading
+pub mod Writing
 pub mod Migrating
 pub mod Opening
 pub mod Commits

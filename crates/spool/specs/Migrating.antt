@@ -20,7 +20,7 @@ use Rattle.sound_tables.specs.declared.fault.TableFault.TheVariants as table
 use Rattle.spool.specs.Adopting.{LeavesRead}
 use Rattle.spool.specs.Books.{KeepsOpen}
 use Rattle.spool.specs.Commits.{HoldsOnDisk}
-use Rattle.spool.specs.Entering.{IsCause, Rests}
+use Rattle.spool.specs.Writing.{IsCause, Rests}
 use Rattle.spool.specs.Vaults.{VaultValue, HoldsAt}
 use Rattle.spool.specs.declared.faults.OpenFault.{OpenFault}
 use Rattle.spool.specs.declared.faults.OpenFault.TheVariants.{NotOurs, NewerVersion, OldVersion, Damaged, Store}

@@ -11,7 +11,7 @@ use Rattle.spool_sql.specs.Stored.{AreTablesOf}
 use Rattle.spool_sql.specs.Steps.{IsBegun}
 use Rattle.spool_sql.specs.Causes.{cause}
 use Rattle.spool_sql.specs.declared.cause.Cause.TheVariants.{Memory}
-use Rattle.spool.specs.Entering.{IsCause, Rests}
+use Rattle.spool.specs.Writing.{IsCause, Rests}
 use Rattle.spool.specs.declared.faults.OpenFault.{OpenFault}
 use Rattle.spool.specs.declared.faults.OpenFault.TheVariants.{NotOurs, NewerVersion, OldVersion, Damaged, Store}
 use Rattle.spool.specs.declared.faults.OpenFault.TheVariants.{OutOfMemory}

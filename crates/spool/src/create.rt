@@ -5,7 +5,7 @@ ghost use Rattle.sqlite.specs.Held.{state};
 ghost use Rattle.spool_sql.specs.Steps.{IfClean, IsBegun, Stands, SurvivesAs};
 ghost use Rattle.spool_sql.specs.Tables.{no_schema};
 ghost use Rattle.spool_sql.specs.Stored.{first_rows};
-ghost use Rattle.spool.specs.Entering.{IsCause};
+ghost use Rattle.spool.specs.Writing.{IsCause};
 ghost use Rattle.spool.specs.Opening.{has_ours, IsRefusedFor, TellsFault, IsBack, Founded, IsFounded, LeavesAt};
 
 use crate::faults::OpenFault;

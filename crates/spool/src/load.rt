@@ -9,20 +9,17 @@ ghost use Rattle.relay_types.specs.Rows.{rows_of};
 ghost use Rattle.endpoint_book.specs.Entries.{with_settled as endpoints_settled};
 ghost use Rattle.delivery_book.specs.Entries.{with_settled as deliveries_settled};
 ghost use Rattle.spool_sql.specs.Steps.{IfClean, IsOfSame, SparesCommit, Stands, SurvivesAs};
-ghost use Rattle.spool.specs.Loading.{IsRefusedOnly, Reads, WasReadRefusal};
+ghost use Rattle.spool_load.specs.Loading.{IsRefusedOnly, Reads, WasReadRefusal};
 ghost use Rattle.spool.specs.Books.{AreBooks, AreBooksOn, AreSettled, IsLoadRefusal, IsSeen, KeepsOpen, TellsLoad};
 
-use crate::deliveries::Deliveries;
 use crate::faults::LoadFault;
-use crate::load_attempts::load_attempts;
-use crate::load_deliveries::load_deliveries;
-use crate::load_endpoints::{Endpoints, load_endpoints};
-use crate::load_topics::load_topics;
-use crate::pages::error_of;
 use delivery_book::DeliveryBook;
 use endpoint_book::EndpointBook;
 use relay_types::{MAX_RECORDS, Moment};
-use spool_sql::{Cause, RowFault, cause_of, probe, select_records};
+use spool_load::{
+    Deliveries, Endpoints, load_attempts, load_deliveries, load_endpoints, load_topics,
+};
+use spool_sql::{Cause, RowFault, cause_of, error_of, probe, select_records};
 use sqlite::{Alter, Connection, Transaction};
 use std::alloc::Global;
 

@@ -9,7 +9,7 @@ ghost use Rattle.spool_sql.specs.Tables.{IsOwn, first_schema};
 ghost use Rattle.sound_tables.specs.Checks.{AreSoundFirstTables, HasSound};
 ghost use Rattle.sound_tables.specs.Keys.{has_first_tables, has_meta};
 ghost use Rattle.spool.specs.Adopting.{FailsIfOfStore, HaveFirstHistory, HaveHistory, IsForeign, IsOfStore};
-ghost use Rattle.spool.specs.Entering.{IsCause};
+ghost use Rattle.spool.specs.Writing.{IsCause};
 ghost use Rattle.spool.specs.Migrating.{AreMigrated, IsFirstUnmigrated, IsMigratedTo, IsUnmade, IsUnmadeFor};
 ghost use Rattle.spool.specs.Migrating.{IsUnmigrated, LeavesMigrated, MayCommit, MayMigrate, Migrated, has_topics};
 ghost use Rattle.spool.specs.Opening.{IsBack};

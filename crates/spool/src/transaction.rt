@@ -6,12 +6,12 @@ ghost use Rattle.relay_types.specs.declared.limits.TheConstants.{MAX_RECORDS};
 ghost use Rattle.relay_types.specs.Records.{records_of};
 ghost use Rattle.spool_sql.specs.Steps.{IfClean, SurvivesAs};
 ghost use Rattle.spool.specs.Books.{KeepsOpen};
-ghost use Rattle.spool.specs.Entering.{Commits, CommitsAll, HasCause, IsCause, StaysAs, WriteEndsAs, IsUnwritten};
-ghost use Rattle.spool.specs.Entering.{Tells};
+ghost use Rattle.spool.specs.Writing.{Commits, CommitsAll, HasCause, IsCause, StaysAs, WriteEndsAs, IsUnwritten};
+ghost use Rattle.spool.specs.Writing.{Tells};
 
-use crate::records::write_records;
 use relay_types::Step;
 use spool_sql::{Cause, cause_of, probe};
+use spool_write::write_records;
 use sqlite::{Alter, Connection, Error};
 
 // How the write of some steps ended.

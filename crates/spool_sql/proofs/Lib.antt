@@ -26,3 +26,6 @@ pub mod RefusalLemmas
 pub mod SecretSelects
 pub mod MetaSelects
 pub mod Refusals
+pub mod PageLaws
+pub mod BothRefused
+pub mod LegalRows

@@ -164,3 +164,18 @@ founds_same s a b c p same =
       founds = λ begun. subst (λ d. IsTables d first_rows) (sym same.0.now_is)
           (p.founds begun);
     }
+
+-- nothing is done
+pub spares_none : (s : State) → Spares s s
+spares_none s = record {
+  kept = λ _. record { was_open = λ is_open. is_open; committed = λ _. refl };
+  survives = record {
+    clean = omega arith;
+    shield = λ it. it;
+    counts = omega arith;
+    limit = refl;
+    closes =
+        λ _ is_open. inl is_open;
+    crash = λ _ db may. inl may;
+  };
+}

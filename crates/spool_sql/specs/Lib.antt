@@ -3,3 +3,4 @@ pub mod Stored
 pub mod Steps
 pub mod Causes
 pub mod Readable
+pub mod Reading

@@ -3,7 +3,7 @@ use Rattle.sqlite.specs.Held.{state}
 use Rattle.sqlite.specs.State.{HasCleanDisk}
 use Rattle.relay_types.specs.declared.record.Record.{Record}
 use Rattle.spool.specs.Commits.{HoldsOnDisk}
-use Rattle.spool.specs.Entering.{RestsInDoubt}
+use Rattle.spool.specs.Writing.{RestsInDoubt}
 use Rattle.spool.specs.Vaults.{VaultValue}
 use Rattle.delivery.specs.Keepers.{AppendsBatches, KeepsLog}
 use Rattle.relay_host.specs.FileGuards.{keeper_of}

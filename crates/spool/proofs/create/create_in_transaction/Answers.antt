@@ -2,7 +2,7 @@ use Rattle.std.proofs.Common.{◌≡◌, IfErr, inl, refl, rules, subst, arith}
 use Rattle.sqlite.specs.State.{HasCleanDisk}
 use Rattle.sqlite.specs.Held.{state}
 use Rattle.spool_sql.proofs.ReadableLemmas.{err_then}
-use Rattle.spool.specs.Entering.{IsCause}
+use Rattle.spool.specs.Writing.{IsCause}
 use Rattle.spool.proofs.CommitLemmas.{commit_refused}
 use Rattle.spool.proofs.create.create_in_transaction.Goals as goal
 

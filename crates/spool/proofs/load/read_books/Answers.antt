@@ -2,7 +2,7 @@ use Rattle.std.proofs.Common.{◌≡◌, IfErr, rules, subst}
 use Rattle.sqlite.specs.State.{HasCleanDisk}
 use Rattle.sqlite.specs.Held.{state}
 use Rattle.sqlite.proofs.Callers.{survives_begin}
-use Rattle.spool.specs.Loading.{WasReadRefusal}
+use Rattle.spool_load.specs.Loading.{WasReadRefusal}
 use Rattle.spool.proofs.BookLoads.{read_until}
 use Rattle.spool.proofs.load.read_books.Goals as goal
 

@@ -6,10 +6,11 @@ use Rattle.spool_sql.specs.Steps.{Spares}
 use Rattle.spool_sql.proofs.StepLemmas.{spares_then}
 use Rattle.spool_sql.specs.declared.row.RowFault.TheVariants.{Failed}
 use Rattle.spool_sql.proofs.ReadableLemmas.{handed_on}
-use Rattle.spool.specs.Loading.{IsReadRefusal}
+use Rattle.spool_load.specs.Loading.{IsReadRefusal}
 use Rattle.spool.proofs.BookLoads.{all_read, all_settle, books_read, settles_read}
-use Rattle.spool.proofs.QuietReads.{IsQuiet, quiet_then, clean_before, tables_along}
-use Rattle.spool.proofs.ReadableLemmas.{legal_readable, refused_behind}
+use Rattle.spool_load.proofs.QuietReads.{IsQuiet, quiet_then, clean_before, tables_along}
+use Rattle.spool_sql.proofs.LegalRows.{legal_readable}
+use Rattle.spool_load.proofs.PageReads.{refused_behind}
 use Rattle.spool.proofs.load.read_tables.Goals as goal
 
 -- four reads, one after another

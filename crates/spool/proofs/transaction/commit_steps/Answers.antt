@@ -4,7 +4,7 @@ use Rattle.sqlite.specs.Held.{state}
 use Rattle.relay_types.specs.Records.{records_of}
 use Rattle.spool_sql.specs.Readable.{IsRefusal}
 use Rattle.spool_sql.proofs.ReadableLemmas.{handed_on}
-use Rattle.spool.specs.Entering.{CommitsAll, IsCause, StaysAs}
+use Rattle.spool.specs.Writing.{CommitsAll, IsCause, StaysAs}
 use Rattle.spool.proofs.CommitLemmas.{survives_all, back_along, commit_refused}
 use Rattle.spool.proofs.transaction.commit_steps.Goals as goal
 

@@ -1,8 +1,0 @@
-use Rattle.std.proofs.Common.{List, map}
-use Rattle.relay_types.specs.declared.record.Record.{Record}
-use Rattle.spool_sql.specs.Stored.{attempt_of}
-use Rattle.spool.specs.Loading.{Attempts}
-use Rattle.spool.proofs.load_attempts.restore_page.Given as goal
-
-abbrev pub invariant-loop-row : goal.invariant-loop-row
-invariant-loop-row l = (records : List Record) → Attempts l.fn.loaded l.loaded (map attempt_of l.yielded) records

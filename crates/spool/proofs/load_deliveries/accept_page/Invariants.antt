@@ -1,9 +1,0 @@
-use Rattle.std.proofs.Common.{List, map}
-use Rattle.relay_types.specs.declared.record.Record.{Record}
-use Rattle.spool_sql.specs.Stored.{delivery_of}
-use Rattle.spool.specs.Loading.{Accepts, AreNames}
-use Rattle.spool.proofs.load_deliveries.accept_page.Given as goal
-
-abbrev pub invariant-loop-row : goal.invariant-loop-row
-invariant-loop-row l = (records : List Record) → AreNames l.names records
-    → Accepts l.fn.loaded l.loaded (map delivery_of l.yielded) records

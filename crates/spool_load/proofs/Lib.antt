@@ -1,0 +1,6 @@
+pub mod EndpointLoads
+pub mod DeliveryLoads
+pub mod AttemptLoads
+pub mod TopicLoads
+pub mod QuietReads
+pub mod PageReads

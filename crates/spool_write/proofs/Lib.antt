@@ -1,0 +1,10 @@
+pub mod SecretLemmas
+pub mod RowLemmas
+pub mod LegalLemmas
+pub mod ChangeLemmas
+pub mod OutcomeLemmas
+pub mod EntryLemmas
+pub mod SubscribedLemmas
+pub mod PurgeLemmas
+pub mod PurgeSteps
+pub mod CutLaws
