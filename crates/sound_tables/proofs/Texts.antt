@@ -12,7 +12,7 @@ use Rattle.sqlite_resolve.specs.declared.compiled.Compiled.{Compiled}
 use Rattle.sqlite_tied.specs.Compute.{everything}
 use Rattle.sqlite.specs.Schema.{Schema}
 use Rattle.spool_sql.specs.Tables.{IsOwn, first_schema, relay_schema}
-use Rattle.spool_sql.proofs.BareLemmas.{IsBare}
+use Rattle.spool_sql.specs.Queries.{IsBare}
 use Rattle.spool_sql.proofs.UpdateLemmas.{scan_by}
 
 -- the order of the first column

@@ -1,11 +1,11 @@
 -- A query whose text has no RETURNING writes nothing, whatever the schema is.
 use Rattle.std.proofs.Common.{◌≡◌, ◌⊎◌, inl, inr, ℕ, List, Bool, true, false, if◌then◌else◌, Option, None, Some, Ok}
-use Rattle.std.proofs.Common.{Err, sym, ap, subst}
+use Rattle.std.proofs.Common.{Err, Result, IfOk, IfErr, OnOk, sym, ap, subst}
 use Rattle.sqlite_syntax.specs.declared.statement.Parsed.{Parsed}
 use Rattle.sqlite_schema.specs.declared.command.Returning.{Returning}
 use Rattle.sqlite_resolve.specs.declared.compiled.Compiled.{Compiled}
 use Rattle.sqlite_resolve.specs.declared.error.CompileError.TheVariants.{NoSuchTable}
-use Rattle.sqlite_resolve.specs.Compile.{compiled, first, planned, meaning, returning, with_command}
+use Rattle.sqlite_resolve.specs.Compile.{compiled, first, planned, meaning, with_command}
 use Rattle.sqlite_resolve.specs.Lowering.{Checked, and_then}
 use Rattle.sqlite.specs.declared.error.Error.{Error}
 use Rattle.sqlite.specs.Command.{Command}
@@ -16,16 +16,9 @@ use Rattle.sqlite.specs.State.{State, Shown, ShowsRows, FailsToQuery, FailsToSho
 use Rattle.sqlite.specs.State.{KeepsCommit, HasCleanDisk, Survives}
 use Rattle.sqlite.specs.Clock.{timed}
 use Rattle.spool_sql.specs.Steps.{Spares}
+use Rattle.spool_sql.specs.Queries.{IsBare, returning_of}
 use Rattle.spool_sql.proofs.InsertLemmas.{same_value}
 use Rattle.spool_sql.proofs.StepLemmas.{keeps_if}
-
--- what the statement of a text shows of what it writes
-abbrev pub returning_of : Checked Parsed → Schema → ℕ → Checked (Option Returning)
-returning_of (Ok p) schema base = returning schema base p.statement
-returning_of (Err e) schema base = Ok None
-
-abbrev pub IsBare : List ℕ → Type 0
-IsBare text = (schema : Schema) (base : ℕ) → returning_of (first text) schema base ≡ Ok None
 
 abbrev plan_of : List (List ℕ) → Checked (Option Returning) → Checked Command
     → Checked (List (List ℕ) × (Command × Option Returning))
@@ -83,7 +76,7 @@ unfolding IsNotRun
 not_run_keeps text params old new e (inl h) = keeps_if old new (inl h.1)
 not_run_keeps text params old new e (inr h) = keeps_if old new (inr h.3)
 
-pub failed_keeps : (text : List ℕ) → IsBare text → (params : Row) (old new : State) (e : Error)
+failed_keeps : (text : List ℕ) → IsBare text → (params : Row) (old new : State) (e : Error)
     → FailsToQuery text params old new e ⊎ IsTooLate text params old new e → KeepsCommit old new
 unfolding FailsToQuery
 failed_keeps text bare params old new e (inl (inl h)) = not_run_keeps text params old new e h
@@ -92,20 +85,21 @@ failed_keeps text bare params old new e (inl (inr h)) =
     keeps_if old new (inl (subst (FailsToShow old new text h.0 (timed params h.0.formats h.1.now) e) none h.2).3)
 failed_keeps text bare params old new e (inr h) = keeps_if old new (inl h.5)
 
-pub spares_found : (text : List ℕ) → IsBare text → (params : Row) (old new : State) (rows : List Row)
-    → (HasCleanDisk new → Shown text params old new rows) → Survives old new (λ _. ⊥) → Spares old new
-spares_found text bare params old new rows h survives =
-    record {
-      kept = λ clean. keeps_if old new (inl (unchanged_by text bare params old new rows (h clean)));
-      survives =
-          survives;
-    }
+-- a look, however it ends
+module _ {X : Type 0} (text : List ℕ) (bare : IsBare text) (params : Row) (old new : State) (items : X → List Row) where
+  pub look_unchanged : (r : Result X Error) → IfOk r (λ x. Shown text params old new (items x))
+      → OnOk r (IsUnchanged old new)
+  look_unchanged (Ok x) shown = unchanged_by text bare params old new (items x) shown
+  look_unchanged (Err e) shown = tt
 
-pub spares_failed : (text : List ℕ) → IsBare text → (params : Row) (old new : State) (e : Error)
-    → (HasCleanDisk new → FailsToQuery text params old new e ⊎ IsTooLate text params old new e)
-    → Survives old new (λ _. ⊥) → Spares old new
-spares_failed text bare params old new e h survives = record {
-  kept = λ clean. failed_keeps text bare params old new e
-      (h clean);
-  survives = survives;
-}
+  pub look_spares : (r : Result X Error) → (HasCleanDisk new → IfOk r (λ x. Shown text params old new (items x)))
+      → (HasCleanDisk new → IfErr r (λ e. FailsToQuery text params old new e ⊎ IsTooLate text params old new e))
+      → Survives old new (λ _. ⊥) → Spares old new
+  look_spares (Ok x) shown failed survives = record {
+    kept = λ clean. keeps_if old new (inl (unchanged_by text bare params old new (items x) (shown clean)));
+    survives = survives;
+  }
+  look_spares (Err e) shown failed survives = record {
+    kept = λ clean. failed_keeps text bare params old new e (failed clean);
+    survives = survives;
+  }

@@ -18,7 +18,7 @@ use Rattle.spool_sql.specs.Tables.{relay_schema}
 use Rattle.spool_sql.specs.Stored.{IsTables, IsEndpointOf, AreStatusesOf, number_of, delivery_stored, attempt_stored}
 use Rattle.relay_types.specs.declared.limits.TheConstants.{MAX_RECORDS}
 use Rattle.spool_sql.specs.Readable.{IsReadableDelivery, IsReadableAttempt, ShowsBelow}
-use Rattle.spool_sql.proofs.BareLemmas.{IsBare}
+use Rattle.spool_sql.specs.Queries.{IsBare}
 use Rattle.spool_sql.proofs.SelectLemmas.{Asks, finds, finds_all, found_in, map_map, equal_numbers, and_true}
 use Rattle.spool_sql.proofs.SelectLemmas.{first_number}
 use Rattle.spool_sql.proofs.UpdateLemmas.{scan, shows}

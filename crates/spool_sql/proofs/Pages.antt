@@ -20,7 +20,7 @@ use Rattle.spool_sql.specs.Stored.{attempt_stored, endpoint_in, delivery_in, att
 use Rattle.spool_sql.specs.Readable.{AreReadable, IsReadableEndpoint, IsReadableDelivery, IsReadableAttempt}
 use Rattle.spool_sql.specs.Readable.{ShowsEndpoint, ShowsDelivery, ShowsAttempt, endpoint_shown, delivery_shown}
 use Rattle.spool_sql.specs.Readable.{attempt_shown}
-use Rattle.spool_sql.proofs.BareLemmas.{IsBare}
+use Rattle.spool_sql.specs.Queries.{IsBare}
 use Rattle.spool_sql.proofs.SelectLemmas.{Asks, map_map}
 use Rattle.spool_sql.proofs.UpdateLemmas.{shows}
 use Rattle.spool_sql.proofs.PageLemmas.{ShowsInOrder, sorted_by, from_number, ordered_rows, passes_from, map_same}

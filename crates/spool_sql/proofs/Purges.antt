@@ -28,7 +28,7 @@ use Rattle.spool_sql.specs.Stored.{delivery_stored, attempt_stored, without_atte
 use Rattle.spool_sql.specs.Steps.{Makes}
 use Rattle.spool_sql.specs.Readable.{AreReadable, IsReadableDelivery, IsReadableAttempt, ShowsBelow, ShowsTried}
 use Rattle.spool_sql.specs.Readable.{tried_shown}
-use Rattle.spool_sql.proofs.BareLemmas.{IsBare}
+use Rattle.spool_sql.specs.Queries.{IsBare}
 use Rattle.spool_sql.proofs.InsertLemmas.{Means}
 use Rattle.spool_sql.proofs.SelectLemmas.{Asks, map_map, equal_numbers, and_true}
 use Rattle.spool_sql.proofs.UpdateLemmas.{scan, scanned}

@@ -23,7 +23,8 @@ use Rattle.sqlite.specs.State.{State, FailsToQuery, FailsToShow, IsTooLate, IsNo
 use Rattle.sqlite.specs.State.{store_error}
 use Rattle.spool_sql.specs.Tables.{relay_schema}
 use Rattle.spool_sql.specs.Readable.{HasFailed, HasFault, IsRefusal, WasRefusal}
-use Rattle.spool_sql.proofs.BareLemmas.{IsBare, understood_bare}
+use Rattle.spool_sql.specs.Queries.{IsBare}
+use Rattle.spool_sql.proofs.BareLemmas.{understood_bare}
 use Rattle.spool_sql.proofs.SelectLemmas.{Asks}
 use Rattle.sqlite.proofs.Callers.{command_of, IsPlain}
 

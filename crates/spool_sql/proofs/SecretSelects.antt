@@ -17,7 +17,7 @@ use Rattle.relay_types.specs.Rows.{Rows, SecretRow}
 use Rattle.spool_sql.specs.Tables.{relay_schema}
 use Rattle.spool_sql.specs.Stored.{IsTables, AreSecretsOf, secret_stored}
 use Rattle.spool_sql.specs.Readable.{AreReadable, IsReadableSecret, ShowsSecret}
-use Rattle.spool_sql.proofs.BareLemmas.{IsBare}
+use Rattle.spool_sql.specs.Queries.{IsBare}
 use Rattle.spool_sql.proofs.SelectLemmas.{Asks, map_map, equal_numbers, and_true}
 use Rattle.spool_sql.proofs.PageLemmas.{ShowsInOrder, sorted_by}
 use Rattle.spool_sql.proofs.HiddenLemmas.{ordered_hidden}

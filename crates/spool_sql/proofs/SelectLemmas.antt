@@ -30,7 +30,7 @@ use Rattle.spool_sql.specs.Tables.{relay_schema}
 use Rattle.spool_sql.specs.Stored.{IsTables, IsPutOf, number_of, endpoints_named, endpoint_stored}
 use Rattle.relay_types.specs.declared.limits.TheConstants.{MAX_RECORDS}
 use Rattle.spool_sql.specs.Readable.{IsReadableEndpoint, ShowsBelow}
-use Rattle.spool_sql.proofs.BareLemmas.{IsBare}
+use Rattle.spool_sql.specs.Queries.{IsBare}
 use Rattle.spool_sql.proofs.InsertLemmas.{Means}
 use Rattle.spool_sql.proofs.UpdateLemmas.{scan, shows, passes, scanned}
 

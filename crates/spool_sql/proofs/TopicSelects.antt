@@ -19,7 +19,7 @@ use Rattle.relay_types.specs.Rows.{Rows, TopicRow, is_pair_row}
 use Rattle.spool_sql.specs.Tables.{relay_schema}
 use Rattle.spool_sql.specs.Stored.{IsTables, IsPage, page_rows, has_pair, topic_stored, topic_in}
 use Rattle.spool_sql.specs.Readable.{AreReadable, IsReadableTopic, ShowsTopic, topic_shown}
-use Rattle.spool_sql.proofs.BareLemmas.{IsBare}
+use Rattle.spool_sql.specs.Queries.{IsBare}
 use Rattle.spool_sql.proofs.SelectLemmas.{Asks, found_in, all_kept, any_kept, equal_numbers, equal_texts, and_true}
 use Rattle.spool_sql.proofs.UpdateLemmas.{scan, passes}
 use Rattle.spool_sql.proofs.PageLemmas.{ShowsInOrder, from_number, passes_from}

@@ -4,3 +4,4 @@ pub mod Steps
 pub mod Causes
 pub mod Readable
 pub mod Reading
+pub mod Queries

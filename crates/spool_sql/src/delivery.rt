@@ -6,6 +6,7 @@ ghost use Rattle.spool_sql.specs.Stored.{IsEndpointOf, AreStatusesOf, number_of}
 ghost use Rattle.spool_sql.specs.Steps.{LeavesAll, LooksUp, IsOfSame, SparesCommit};
 
 use crate::find::first_seq;
+use crate::query::query;
 use crate::seq::Seq;
 use sqlite::{Alter, Error, Row, Transaction};
 use std::alloc::Global;
@@ -22,7 +23,8 @@ pub fn select_endpoint<S: Alter>(
     ensures refused { IsRefusedFor S.Store tx.old.conn.now tx.new.conn.now result }
     ensures spares { SparesCommit S.Store tx.old.conn.now tx.new.conn.now }
 {
-    let rows = tx.query_all(
+    let rows = query(
+        tx,
         "SELECT endpoint FROM deliveries WHERE seq = ?1",
         &[delivery.value()],
     )?;
@@ -41,7 +43,8 @@ pub fn select_statuses<S: Alter>(
     ensures refused { IsRefusedFor S.Store tx.old.conn.now tx.new.conn.now result }
     ensures spares { SparesCommit S.Store tx.old.conn.now tx.new.conn.now }
 {
-    let rows = tx.query_all(
+    let rows = query(
+        tx,
         "SELECT status FROM attempts WHERE delivery = ?1",
         &[delivery.value()],
     )?;

@@ -7,6 +7,7 @@ ghost use Rattle.spool_sql.specs.Readable.{IsMemory, IsRefusedFor, ShowsBelow};
 ghost use Rattle.spool_sql.specs.Stored.{IsPutOf, has_pair, number_of};
 ghost use Rattle.spool_sql.specs.Steps.{LeavesAll, LooksUp, IsOfSame, SparesCommit};
 
+use crate::query::query;
 use crate::seq::Seq;
 use relay_types::{MAX_RECORDS, Name};
 use sqlite::{Alter, Error, Row, Transaction};
@@ -21,7 +22,8 @@ pub fn select_put<S: Alter>(tx: &mut Transaction<'_, S>, name: &Name) -> Result<
     ensures refused { IsRefusedFor S.Store tx.old.conn.now tx.new.conn.now result }
     ensures spares { SparesCommit S.Store tx.old.conn.now tx.new.conn.now }
 {
-    let rows = tx.query_all(
+    let rows = query(
+        tx,
         "SELECT put FROM endpoints WHERE name = ?1",
         &[ValueRef::Text(name.as_bytes())],
     )?;
@@ -60,7 +62,7 @@ pub fn count_endpoints<S: Alter>(tx: &mut Transaction<'_, S>) -> Result<usize, E
     ensures refused { IsRefusedFor S.Store tx.old.conn.now tx.new.conn.now result }
     ensures spares { SparesCommit S.Store tx.old.conn.now tx.new.conn.now }
 {
-    let rows = tx.query_all("SELECT put FROM endpoints", &[])?;
+    let rows = query(tx, "SELECT put FROM endpoints", &[])?;
     Ok(rows.len())
 }
 
@@ -77,7 +79,8 @@ pub fn has_topic<S: Alter>(
     ensures refused { IsRefusedFor S.Store tx.old.conn.now tx.new.conn.now result }
     ensures spares { SparesCommit S.Store tx.old.conn.now tx.new.conn.now }
 {
-    let rows = tx.query_all(
+    let rows = query(
+        tx,
         "SELECT endpoint FROM topics WHERE topic = ?1 AND endpoint = ?2",
         &[ValueRef::Text(topic.as_bytes()), endpoint.value()],
     )?;
@@ -93,6 +96,6 @@ pub fn count_topics<S: Alter>(tx: &mut Transaction<'_, S>) -> Result<usize, Erro
     ensures refused { IsRefusedFor S.Store tx.old.conn.now tx.new.conn.now result }
     ensures spares { SparesCommit S.Store tx.old.conn.now tx.new.conn.now }
 {
-    let rows = tx.query_all("SELECT endpoint FROM topics", &[])?;
+    let rows = query(tx, "SELECT endpoint FROM topics", &[])?;
     Ok(rows.len())
 }

@@ -11,6 +11,7 @@ mod migrate;
 mod opened;
 mod page;
 mod purge;
+mod query;
 mod read;
 mod row;
 mod seq;

@@ -9,6 +9,7 @@ ghost use Rattle.spool_sql.specs.Stored.{without_attempts, without_delivery};
 ghost use Rattle.spool_sql.specs.Steps.{Changes, ChangesWhere, IsOfSame, IsRefusedOf, LeavesAll, LooksUp, SparesCommit};
 
 use crate::find::seq_of;
+use crate::query::query;
 use crate::row::Tried;
 use crate::seq::Seq;
 use relay_types::{MAX_RECORDS, Moment};
@@ -24,7 +25,8 @@ pub fn select_events<S: Alter>(tx: &mut Transaction<'_, S>, from: Seq) -> Result
     ensures refused { IsRefusedFor S.Store tx.old.conn.now tx.new.conn.now result }
     ensures spares { SparesCommit S.Store tx.old.conn.now tx.new.conn.now }
 {
-    let rows = tx.query_all(
+    let rows = query(
+        tx,
         "SELECT seq FROM deliveries WHERE seq >= ?1 ORDER BY seq LIMIT 256",
         &[from.value()],
     )?;
@@ -57,7 +59,8 @@ pub fn select_tries<S: Alter>(
     ensures refused { IsRefusedFor S.Store tx.old.conn.now tx.new.conn.now result }
     ensures spares { SparesCommit S.Store tx.old.conn.now tx.new.conn.now }
 {
-    let rows = tx.query_all(
+    let rows = query(
+        tx,
         "SELECT delivery, status, at FROM attempts WHERE delivery >= ?1 AND delivery <= ?2 \
          ORDER BY delivery, number",
         &[first.value(), last.value()],

@@ -9,6 +9,7 @@ ghost use Rattle.spool_sql.specs.Stored.{IsPage, AreSecretsOf, number_of, endpoi
 ghost use Rattle.spool_sql.specs.Stored.{delivery_of, attempt_in, attempt_of, topic_in, topic_of};
 ghost use Rattle.spool_sql.specs.Steps.{LeavesAll, LooksUp, IsOfSame, SparesCommit};
 
+use crate::query::query;
 use crate::row::{
     AttemptRow, DeliveryRow, EndpointRow, RowFault, TopicRow, read_attempt, read_delivery,
     read_endpoint, read_secret, read_topic,
@@ -26,7 +27,7 @@ pub fn select_records<S: Alter>(tx: &mut Transaction<'_, S>) -> Result<u64, Erro
     ensures refused { IsRefusedFor S.Store tx.old.conn.now tx.new.conn.now result }
     ensures spares { SparesCommit S.Store tx.old.conn.now tx.new.conn.now }
 {
-    let rows = tx.query_all("SELECT records FROM meta", &[])?;
+    let rows = query(tx, "SELECT records FROM meta", &[])?;
     first_number(&rows)
 }
 
@@ -54,7 +55,8 @@ pub fn select_endpoints<S: Alter>(
     ensures refused { AreRowsRefusedFor S.Store tx.old.conn.now tx.new.conn.now result }
     ensures spares { SparesCommit S.Store tx.old.conn.now tx.new.conn.now }
 {
-    let rows = tx.query_all(
+    let rows = query(
+        tx,
         "SELECT put, name, url, max, enabled, enabled_by, secrets_by FROM endpoints \
          WHERE put >= ?1 ORDER BY put LIMIT 256",
         &[from.value()],
@@ -87,7 +89,8 @@ pub fn select_secrets<S: Alter>(
     ensures refused { AreRowsRefusedFor S.Store tx.old.conn.now tx.new.conn.now result }
     ensures spares { SparesCommit S.Store tx.old.conn.now tx.new.conn.now }
 {
-    let rows = tx.query_all(
+    let rows = query(
+        tx,
         "SELECT secret FROM secrets WHERE endpoint = ?1 ORDER BY place",
         &[endpoint.value()],
     )?;
@@ -119,7 +122,8 @@ pub fn select_deliveries<S: Alter>(
     ensures refused { AreRowsRefusedFor S.Store tx.old.conn.now tx.new.conn.now result }
     ensures spares { SparesCommit S.Store tx.old.conn.now tx.new.conn.now }
 {
-    let rows = tx.query_all(
+    let rows = query(
+        tx,
         "SELECT seq, endpoint, id, at, body FROM deliveries WHERE seq >= ?1 ORDER BY seq LIMIT 256",
         &[from.value()],
     )?;
@@ -151,7 +155,8 @@ pub fn select_attempts<S: Alter>(
     ensures refused { AreRowsRefusedFor S.Store tx.old.conn.now tx.new.conn.now result }
     ensures spares { SparesCommit S.Store tx.old.conn.now tx.new.conn.now }
 {
-    let rows = tx.query_all(
+    let rows = query(
+        tx,
         "SELECT seq, delivery, number, status, at FROM attempts WHERE seq >= ?1 ORDER BY seq LIMIT 256",
         &[from.value()],
     )?;
@@ -183,7 +188,8 @@ pub fn select_topics<S: Alter>(
     ensures refused { AreRowsRefusedFor S.Store tx.old.conn.now tx.new.conn.now result }
     ensures spares { SparesCommit S.Store tx.old.conn.now tx.new.conn.now }
 {
-    let rows = tx.query_all(
+    let rows = query(
+        tx,
         "SELECT topic, endpoint, subscribed, set_by FROM topics WHERE set_by >= ?1 ORDER BY set_by LIMIT 256",
         &[from.value()],
     )?;

@@ -5,40 +5,25 @@ use Rattle.spool_sql.specs.Stored.{IsTables}
 use Rattle.spool_sql.specs.Readable.{AreReadable, IsRefusal}
 use Rattle.spool_sql.proofs.ReadableLemmas.{handed_on}
 use Rattle.spool_sql.proofs.Refusals.{topic_refused}
-use Rattle.spool_sql.proofs.BareLemmas.{unchanged_by, spares_found, spares_failed}
-use Rattle.spool_sql.proofs.TopicSelects.{topic_select, topic_select_bare, tells_topic}
+use Rattle.spool_sql.proofs.TopicSelects.{topic_select_bare, tells_topic}
 use Rattle.spool_sql.proofs.find.has_topic.Goals as goal
 
-pub returns-clause-unchanged : goal.returns-clause-unchanged
-returns-clause-unchanged g c clean =
-    unchanged_by topic_select topic_select_bare _ (state g.S.Store c.args.tx.now.conn.now)
-    (state g.S.Store c.query_all.new.self.conn.now) _ (c.in_ok-rows.ensures.ok clean)
+pub query-requires : goal.query-requires
+query-requires g c = topic_select_bare
 
 pub returns-clause-found : goal.returns-clause-found
 returns-clause-found g c clean rows t =
-    let shown = rw (c.as_bytes.ensures.text, c.value.ensures.value) at (c.in_ok-rows.ensures.ok clean) in
+    let shown = rw (c.as_bytes.ensures.text, c.value.ensures.value) at (c.in_ok-rows.ensures.shown clean) in
     let many : vec_len c.in_ok-rows.rows ≡ length c.in_ok-rows.rows.items = omega (arith, c.in_ok-rows.rows.ok.0) in
     ap not c.is_empty.ensures ∙ ap (λ n. not (n == 0)) many ∙ tells_topic (state g.S.Store c.args.tx.now.conn.now)
-    (state g.S.Store c.query_all.new.self.conn.now) c.in_ok-rows.rows.items rows t c.args.topic.now
+    (state g.S.Store c.query.new.tx.conn.now) c.in_ok-rows.rows.items rows t c.args.topic.now
     c.args.endpoint shown
-
-pub returns-clause-spares : goal.returns-clause-spares
-returns-clause-spares g c =
-    spares_found topic_select topic_select_bare _ (state g.S.Store c.args.tx.now.conn.now)
-    (state g.S.Store c.query_all.new.self.conn.now) _ (λ clean. c.in_ok-rows.ensures.ok clean)
-    c.query_all.ensures.survives
-
-pub returns-in_err-rows-clause-spares : goal.returns-in_err-rows-clause-spares
-returns-in_err-rows-clause-spares g c =
-    spares_failed topic_select topic_select_bare _ (state g.S.Store c.args.tx.now.conn.now)
-    (state g.S.Store c.query_all.new.self.conn.now) _ (λ clean. c.in_err-rows.ensures.err clean)
-    c.query_all.ensures.survives
 
 pub returns-in_err-rows-clause-refused : goal.returns-in_err-rows-clause-refused
 returns-in_err-rows-clause-refused g c clean =
     let a = state g.S.Store c.args.tx.now.conn.now in
-    let b = state g.S.Store c.query_all.new.self.conn.now in
+    let b = state g.S.Store c.query.new.tx.conn.now in
     handed_on c.from_residual.result c.in_err-rows.field-0.0 (λ e. (rows : Rows) → IsTables a.now rows
     → AreReadable rows → IsRefusal a b e) c.from_residual.ensures.1
     (λ rows t readable. topic_refused c.args.topic.now c.args.endpoint a b _ rows t
-    (rw (c.as_bytes.ensures.text, c.value.ensures.value) at (c.in_err-rows.ensures.err clean)))
+    (rw (c.as_bytes.ensures.text, c.value.ensures.value) at (c.in_err-rows.ensures.failed clean)))

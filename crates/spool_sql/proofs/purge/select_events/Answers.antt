@@ -1,59 +1,41 @@
 use Rattle.std.proofs.Common.{ℕ, inl, sym, ap, subst, ◌∙◌, map}
 use Rattle.sqlite.specs.Held.{state}
 use Rattle.relay_types.specs.Rows.{Rows, DeliveryRow}
-use Rattle.spool_sql.specs.Stored.{IsTables}
+use Rattle.spool_sql.specs.Stored.{IsTables, IsPage, number_of}
 use Rattle.spool_sql.specs.Readable.{AreReadable, IsRefusal}
 use Rattle.spool_sql.proofs.ReadableLemmas.{handed_on, err_then}
 use Rattle.spool_sql.proofs.Refusals.{events_refused}
-use Rattle.spool_sql.specs.Stored.{IsPage, number_of}
-use Rattle.spool_sql.proofs.BareLemmas.{unchanged_by, spares_found, spares_failed}
-use Rattle.spool_sql.proofs.Purges.{shows_events, events_select}
-use Rattle.spool_sql.proofs.Purges.{events_select_bare, tells_events}
-use Rattle.spool_sql.proofs.StepLemmas.{ok_then, ok_always}
+use Rattle.spool_sql.proofs.Purges.{shows_events, events_select_bare, tells_events}
+use Rattle.spool_sql.proofs.StepLemmas.{ok_then}
 use Rattle.spool_sql.proofs.purge.select_events.Goals as goal
 
-pub returns-clause-unchanged : goal.returns-clause-unchanged
-returns-clause-unchanged g c clean =
-    ok_always c.read_seqs.result
-    (unchanged_by events_select events_select_bare _ (state g.S.Store c.args.tx.now.conn.now)
-    (state g.S.Store c.query_all.new.self.conn.now) _ (c.in_ok-rows.ensures.ok clean))
+pub query-requires : goal.query-requires
+query-requires g c = events_select_bare
 
 pub returns-clause-found : goal.returns-clause-found
 returns-clause-found g c clean =
     ok_then c.read_seqs.result _ _ c.read_seqs.ensures.value (λ found is rows t.
     subst (IsPage (λ (n : ℕ). n) c.args.from (map (λ (d : DeliveryRow). d.seq) rows.deliveries))
     (sym (is ∙ ap (map number_of) c.deref.ensures.value))
-    (tells_events (state g.S.Store c.args.tx.now.conn.now) (state g.S.Store c.query_all.new.self.conn.now)
+    (tells_events (state g.S.Store c.args.tx.now.conn.now) (state g.S.Store c.query.new.tx.conn.now)
     c.in_ok-rows.rows.items rows t c.args.from
-    (rw c.value.ensures.value at (c.in_ok-rows.ensures.ok clean))))
-
-pub returns-clause-spares : goal.returns-clause-spares
-returns-clause-spares g c =
-    spares_found events_select events_select_bare _ (state g.S.Store c.args.tx.now.conn.now)
-    (state g.S.Store c.query_all.new.self.conn.now) _
-    (λ clean. c.in_ok-rows.ensures.ok clean) c.query_all.ensures.survives
-
-pub returns-in_err-rows-clause-spares : goal.returns-in_err-rows-clause-spares
-returns-in_err-rows-clause-spares g c =
-    spares_failed events_select events_select_bare _ (state g.S.Store c.args.tx.now.conn.now)
-    (state g.S.Store c.query_all.new.self.conn.now) _ (λ clean. c.in_err-rows.ensures.err clean)
-    c.query_all.ensures.survives
+    (rw c.value.ensures.value at (c.in_ok-rows.ensures.shown clean))))
 
 pub returns-in_err-rows-clause-refused : goal.returns-in_err-rows-clause-refused
 returns-in_err-rows-clause-refused g c clean =
     let a = state g.S.Store c.args.tx.now.conn.now in
-    let b = state g.S.Store c.query_all.new.self.conn.now in
+    let b = state g.S.Store c.query.new.tx.conn.now in
     handed_on c.from_residual.result c.in_err-rows.field-0.0 (λ e. (rows : Rows) → IsTables a.now rows
     → AreReadable rows → IsRefusal a b e) c.from_residual.ensures.1
     (λ rows t readable. events_refused c.args.from a b _ rows t
-    (rw c.value.ensures.value at (c.in_err-rows.ensures.err clean)))
+    (rw c.value.ensures.value at (c.in_err-rows.ensures.failed clean)))
 
 pub returns-clause-refused : goal.returns-clause-refused
 returns-clause-refused g c clean =
     let a = state g.S.Store c.args.tx.now.conn.now in
-    let b = state g.S.Store c.query_all.new.self.conn.now in
+    let b = state g.S.Store c.query.new.tx.conn.now in
     err_then c.read_seqs.result _ (λ e. (rows : Rows) → IsTables a.now rows → AreReadable rows
     → IsRefusal a b e) c.read_seqs.ensures.refused
     (λ e memory rows t readable. inl (memory (rw c.deref.ensures.value
     (shows_events a b _ rows t c.args.from
-    (rw c.value.ensures.value at (c.in_ok-rows.ensures.ok clean)) readable))))
+    (rw c.value.ensures.value at (c.in_ok-rows.ensures.shown clean)) readable))))

@@ -1,60 +1,42 @@
 use Rattle.std.proofs.Common.{sym, ap, subst, ◌∙◌, map}
 use Rattle.sqlite.specs.Held.{state}
-use Rattle.relay_types.specs.Rows.{Rows}
+use Rattle.relay_types.specs.Rows.{Rows, DeliveryRow}
 use Rattle.spool_sql.specs.declared.row.RowFault.TheVariants.{Failed}
-use Rattle.spool_sql.specs.Stored.{IsTables}
+use Rattle.spool_sql.specs.Stored.{IsTables, IsPage, delivery_in}
 use Rattle.spool_sql.specs.Readable.{AreReadable, IsRowRefusal}
 use Rattle.spool_sql.proofs.ReadableLemmas.{handed_on, err_then, row_memory}
 use Rattle.spool_sql.proofs.Refusals.{deliveries_refused}
-use Rattle.relay_types.specs.Rows.{DeliveryRow}
-use Rattle.spool_sql.specs.Stored.{IsPage, delivery_in}
-use Rattle.spool_sql.proofs.BareLemmas.{unchanged_by, spares_found, spares_failed}
-use Rattle.spool_sql.proofs.Pages.{shows_deliveries, deliveries_select, deliveries_select_bare, tells_deliveries}
-use Rattle.spool_sql.proofs.StepLemmas.{ok_then, ok_always}
+use Rattle.spool_sql.proofs.Pages.{shows_deliveries, deliveries_select_bare, tells_deliveries}
+use Rattle.spool_sql.proofs.StepLemmas.{ok_then}
 use Rattle.spool_sql.proofs.read.select_deliveries.Goals as goal
 
-pub returns-clause-unchanged : goal.returns-clause-unchanged
-returns-clause-unchanged g c clean =
-    ok_always c.read_deliveries.result
-    (unchanged_by deliveries_select deliveries_select_bare _ (state g.S.Store c.args.tx.now.conn.now)
-    (state g.S.Store c.query_all.new.self.conn.now) _ (c.in_ok-rows.ensures.ok clean))
+pub query-requires : goal.query-requires
+query-requires g c = deliveries_select_bare
 
 pub returns-clause-found : goal.returns-clause-found
 returns-clause-found g c clean =
     ok_then c.read_deliveries.result _ _ c.read_deliveries.ensures.value (λ page is rows t.
     subst (IsPage (λ (d : DeliveryRow). d.seq) c.args.from rows.deliveries)
     (sym (is ∙ ap (map delivery_in) c.deref.ensures.value))
-    (tells_deliveries (state g.S.Store c.args.tx.now.conn.now) (state g.S.Store c.query_all.new.self.conn.now)
-    c.in_ok-rows.rows.items rows t c.args.from (rw c.value.ensures.value at (c.in_ok-rows.ensures.ok clean))))
-
-pub returns-clause-spares : goal.returns-clause-spares
-returns-clause-spares g c =
-    spares_found deliveries_select deliveries_select_bare _ (state g.S.Store c.args.tx.now.conn.now)
-    (state g.S.Store c.query_all.new.self.conn.now) _
-    (λ clean. c.in_ok-rows.ensures.ok clean) c.query_all.ensures.survives
-
-pub returns-in_err-rows-clause-spares : goal.returns-in_err-rows-clause-spares
-returns-in_err-rows-clause-spares g c =
-    spares_failed deliveries_select deliveries_select_bare _ (state g.S.Store c.args.tx.now.conn.now)
-    (state g.S.Store c.query_all.new.self.conn.now) _ (λ clean. c.in_err-rows.ensures.err clean)
-    c.query_all.ensures.survives
+    (tells_deliveries (state g.S.Store c.args.tx.now.conn.now) (state g.S.Store c.query.new.tx.conn.now)
+    c.in_ok-rows.rows.items rows t c.args.from (rw c.value.ensures.value at (c.in_ok-rows.ensures.shown clean))))
 
 pub returns-in_err-rows-clause-refused : goal.returns-in_err-rows-clause-refused
 returns-in_err-rows-clause-refused g c clean =
     let a = state g.S.Store c.args.tx.now.conn.now in
-    let b = state g.S.Store c.query_all.new.self.conn.now in
+    let b = state g.S.Store c.query.new.tx.conn.now in
     handed_on c.from_residual.result (Failed c.in_err-rows.field-0.0) (λ e. (rows : Rows) → IsTables a.now rows
     → AreReadable rows → IsRowRefusal a b e) c.from_residual.ensures.1
     (λ rows t readable. deliveries_refused c.args.from a b _ rows t
-    (rw c.value.ensures.value at (c.in_err-rows.ensures.err clean)))
+    (rw c.value.ensures.value at (c.in_err-rows.ensures.failed clean)))
 
 pub returns-clause-refused : goal.returns-clause-refused
 returns-clause-refused g c clean =
     let a = state g.S.Store c.args.tx.now.conn.now in
-    let b = state g.S.Store c.query_all.new.self.conn.now in
+    let b = state g.S.Store c.query.new.tx.conn.now in
     err_then c.read_deliveries.result _ (λ e. (rows : Rows) → IsTables a.now rows → AreReadable rows
     → IsRowRefusal a b e) c.read_deliveries.ensures.refused
     (λ e memory rows t readable. row_memory a b e
     (memory (rw c.deref.ensures.value
-    (shows_deliveries a b _ rows t c.args.from (rw c.value.ensures.value at (c.in_ok-rows.ensures.ok clean))
+    (shows_deliveries a b _ rows t c.args.from (rw c.value.ensures.value at (c.in_ok-rows.ensures.shown clean))
     readable))))
