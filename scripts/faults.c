@@ -4,7 +4,7 @@
 //   FAULT_FILE=N        The Nth call that reads, writes, cuts or syncs a file by place fails, and the later ones if FAULT_ALSO is set.
 //   FAULT_SLOW=N        Each call that reads a file by place takes N microseconds longer.
 //   FAULT_READ=N        The Nth read of standard input fails, and each later one. A read gives FAULT_PIECE bytes at most.
-//   FAULT_WRITE=N       The same of writes to standard output.
+//   FAULT_WRITE=N       The same of writes to standard output. (A write to standard error takes FAULT_PIECE bytes at most, too.)
 //   FAULT_INTERRUPT=N   The Nth read of standard input is interrupted, and the Nth write to standard output and to standard error.
 //   FAULT_STOP=N        The machine stops at the Nth call that writes, cuts or syncs a file by place: of what the files were given since they were
 //                       last synced a part is lost, and the process ends at once with status 9. FAULT_LOSE is what is lost: `all`, `none`, or a

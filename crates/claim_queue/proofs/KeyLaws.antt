@@ -20,16 +20,16 @@ same_key_itself a = and_from (nat_eq a.seq a.seq) (nat_eq a.due a.due) (eq-eqb a
 not_before_itself : (a : QueueKey) → comes_before a a ≡ true → ⊥
 not_before_itself a h = both_ways (comes_before a a) (one_way a a h) h
 
-or_keyed : (a b : Bool) → (a || b) ≡ (b || a)
-or_keyed true true = refl
-or_keyed true false = refl
-or_keyed false true = refl
-or_keyed false false = refl
+or_swapped : (a b : Bool) → (a || b) ≡ (b || a)
+or_swapped true true = refl
+or_swapped true false = refl
+or_swapped false true = refl
+or_swapped false false = refl
 
 pub any_insert : {X : Type 0} (test : X → Bool) (xs : List X) (n : ℕ) (y : X)
     → list_any test (insert xs n y) ≡ (list_any test xs || test y)
 any_insert test xs n y = sym (list_any-IsPermutation test (y ∷ xs) (insert xs n y) (IsPermutation-insert xs n y))
-    ∙ or_keyed (test y) (list_any test xs)
+    ∙ or_swapped (test y) (list_any test xs)
 
 -- A key at its place
 

@@ -13,7 +13,7 @@ pub struct Pair {
     pub(crate) seq: u64,
 }
 
-/// When a delivery has its key: the moment at which it is due, and its number.
+/// The key that orders the queue: the moment at which a delivery is due, and its number.
 #[derive(Clone, Copy)]
 pub struct QueueKey {
     pub(crate) due: u64,

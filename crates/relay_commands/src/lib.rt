@@ -1,4 +1,4 @@
-//! The relay's command line, and `replay`; over a reader and two writers.
+//! The relay's command line and its command `replay`, over a reader and two writers.
 #![tactic(auto)]
 
 mod command_line;

@@ -1,4 +1,4 @@
-//! Laws that contracts rest on.
+//! Theorems that contracts rest on.
 ghost use Rattle.relay_types.specs.Alike.{RowsTellAll};
 ghost use Rattle.relay_types.specs.Laws.{RowsFollow};
 ghost use Rattle.relay_types.specs.Sound.{LegalRowsAreSound, SoundRowsAreOfAHistory};

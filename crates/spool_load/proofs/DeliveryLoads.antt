@@ -29,8 +29,8 @@ use Rattle.spool_load.specs.Loading.{AreAccepted, Accepts, NextToAccept, MayAcce
 use Rattle.spool_load.specs.Loading.{greatest, named_put_of, name_put}
 use Rattle.spool_load.specs.declared.deliveries.Deliveries.{Deliveries}
 use Rattle.spool_load.specs.declared.endpoints.NamedPut.{NamedPut}
-use Rattle.spool_sql.proofs.PageLaws.{below_next, get_map, rising_find, rising_higher, rising_kept, rising_map, rows_rise}
-use Rattle.spool_sql.proofs.PageLaws.{legal_length}
+use Rattle.spool_sql.proofs.PageLaws.{below_next, get_map, rising_find, rising_higher, rising_kept, rising_map}
+use Rattle.spool_sql.proofs.PageLaws.{rows_rise, legal_length}
 use Rattle.spool_load.proofs.QuietReads.{IsReadTo, read_none}
 use Rattle.spool_load.proofs.EndpointLoads.{endpoints_rise, in_front, in_middle}
 

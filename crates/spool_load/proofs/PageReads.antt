@@ -12,8 +12,8 @@ use Rattle.spool_sql.specs.Steps.{Spares}
 use Rattle.spool_sql.specs.Stored.{IsPage, IsTables}
 use Rattle.spool_sql.proofs.BothRefused.{refusal_since}
 use Rattle.spool_sql.specs.Reading.{ComeNext}
-use Rattle.spool_load.proofs.QuietReads.{IsQuiet, IsReadTo, clean_before, comes_next, page_rises, quiet_look, quiet_then}
-use Rattle.spool_load.proofs.QuietReads.{tables_along}
+use Rattle.spool_load.proofs.QuietReads.{IsQuiet, IsReadTo, clean_before, comes_next, page_rises, quiet_look}
+use Rattle.spool_load.proofs.QuietReads.{quiet_then, tables_along}
 
 -- What refused one of two calls refused both
 

@@ -28,7 +28,7 @@ pub struct NamedPut {
 pub struct Endpoints {
     /// Their book.
     pub book: EndpointBook,
-    /// Their names, in the order of the numbers.
+    /// The number of each one's Put and its name, in the order of the numbers.
     pub names: Vec<NamedPut>,
 }
 

@@ -9,8 +9,8 @@ ghost use Rattle.delivery_book.specs.Entries.{with_event};
 ghost use Rattle.spool_sql.specs.Readable.{IsMemoryFault};
 ghost use Rattle.spool_sql.specs.Stored.{delivery_of};
 ghost use Rattle.spool_sql.specs.Steps.{IsOfSame, SparesCommit};
-ghost use Rattle.spool_load.specs.Loading.{LeavesOpen, Reads, IsRefusedOnly, AreAccepted, Accepts, NextToAccept, MayAccept};
-ghost use Rattle.spool_load.specs.Loading.{AreNames, IsNameOf};
+ghost use Rattle.spool_load.specs.Loading.{LeavesOpen, Reads, IsRefusedOnly, AreAccepted, Accepts, NextToAccept};
+ghost use Rattle.spool_load.specs.Loading.{MayAccept, AreNames, IsNameOf};
 ghost use Rattle.spool_sql.specs.Reading.{IsRising};
 
 use crate::deliveries::Deliveries;

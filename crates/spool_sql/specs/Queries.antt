@@ -1,4 +1,4 @@
--- Which texts only look.
+-- Which texts show nothing of what they write.
 use Rattle.std.specs.Prelude.{◌≡◌, ℕ, List, Option, None, Ok, Err}
 use Rattle.sqlite_syntax.specs.declared.statement.Parsed.{Parsed}
 use Rattle.sqlite_schema.specs.declared.command.Returning.{Returning}

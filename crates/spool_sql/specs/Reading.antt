@@ -1,4 +1,4 @@
--- A table that is read page by page, in the order of its numbers.
+-- A table that is read page by page, in the order of its numbers; which error of the store stands for a row's fault.
 use Rattle.std.specs.Prelude.{◌≡◌, ◌+◌, ◌≤◌, List, [], ◌∷◌, ◌++◌}
 use Rattle.relay_types.specs.declared.limits.TheConstants.{MAX_RECORDS}
 use Rattle.relay_types.specs.Values.{Seq}

@@ -7,7 +7,8 @@ use crate::row::RowFault;
 use crate::seq::Seq;
 use sqlite::{Error, ErrorCode};
 
-/// The number after the last row of a page that was read from this number on.
+/// Where the next page begins: the number after the last row of a page that was read from this number on. A last row
+/// below that number is unreadable.
 pub fn behind(last: Seq, from: u64) -> Result<u64, RowFault>
     ensures number { IfOk result (λ next. next ≡ last + 1) }
     ensures above { IfOk result (λ next. from < next) }

@@ -8,7 +8,7 @@ ghost use Rattle.spool_sql.specs.Steps.{IfClean, LeavesAll, IsOfSame, SparesComm
 use sqlite::{Alter, Error, Row, Transaction};
 use sqlite_value::value::ValueRef;
 
-// The rows that the text shows with these values. It writes nothing.
+// The rows that the text shows with these values. The text has no RETURNING, so it writes nothing.
 pub(crate) fn query<S: Alter>(
     tx: &mut Transaction<'_, S>,
     sql: &str,

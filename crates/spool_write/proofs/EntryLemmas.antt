@@ -22,7 +22,8 @@ use Rattle.spool_sql.specs.Stored.{IsTables, IsPutOf, with_records, with_deliver
 use Rattle.spool_sql.specs.Stored.{with_topic, without_topic}
 use Rattle.spool_sql.specs.Steps.{AddsUnlessKnown, GoesOn, Alters}
 use Rattle.spool_write.specs.Entering.{HasRows, Enters, EntersWhole, with_put, with_secrets_replaced, disabled_if_gone}
-use Rattle.spool_write.specs.Entering.{may_put, may_accept, accepting, may_subscribe, subscribing, may_attempt, attempting}
+use Rattle.spool_write.specs.Entering.{may_put, may_accept, accepting, may_subscribe, subscribing, may_attempt}
+use Rattle.spool_write.specs.Entering.{attempting}
 use Rattle.relay_types.proofs.KnownLaws.{legal_more, illegal_if, illegal_front}
 use Rattle.spool_write.proofs.RowLemmas.{accepting-found, accepting-unknown, answer-none, answer-some}
 use Rattle.spool_write.proofs.LegalLemmas.{allowed_for-is, legal_once}

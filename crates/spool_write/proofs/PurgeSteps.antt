@@ -25,8 +25,8 @@ use Rattle.spool_write.specs.Entering.{AreInTurn, AreWalkable, Enters, HasRows, 
 use Rattle.spool_write.specs.Entering.{without_past}
 use Rattle.spool_write.proofs.EntryLemmas.{goes_then, goes_if_same}
 use Rattle.spool_write.proofs.PurgeLemmas.{gone_twice, is_listed, kept_event, legal_walkable, none_gone, none_past}
-use Rattle.spool_write.proofs.PurgeLemmas.{own_numbers, page_past, taken_event, tries_rise, turn_left, walk_ends, walk_none}
-use Rattle.spool_write.proofs.PurgeLemmas.{walk_rises, walk_some, walk_starts}
+use Rattle.spool_write.proofs.PurgeLemmas.{own_numbers, page_past, taken_event, tries_rise, turn_left, walk_ends}
+use Rattle.spool_write.proofs.PurgeLemmas.{walk_none, walk_rises, walk_some, walk_starts}
 
 -- the tables of a state that changed nothing
 along : (a b : State) (rows : Rows) → IsUnchanged a b → IsTables a.now rows → IsTables b.now rows

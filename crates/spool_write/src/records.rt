@@ -70,7 +70,8 @@ fn write_step<S: Alter>(
     Ok(true)
 }
 
-/// Writes the records of the steps from this number on, if each may follow those before it, and how many there are then.
+/// Writes the records of the steps, numbered from `next` on, and then how many records there are. The answer is false
+/// if one of them may not follow those before it.
 pub fn write_records<S: Alter>(
     tx: &mut Transaction<'_, S>,
     next: u64,

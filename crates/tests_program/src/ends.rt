@@ -1,4 +1,4 @@
-// How a command ends: the line of its fault, through writers that take little or nothing.
+// How a command ends: the line of its fault, through writers that take little or nothing; no secret is refused.
 
 use crate::streams::{Calls, Writer, holds};
 use command_interface::{CommandFault, StoreFault, end};

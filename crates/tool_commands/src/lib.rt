@@ -1,4 +1,4 @@
-//! The commands that need no desk: `check`, `sign` and `vegas`, each over a reader and two writers.
+//! The commands that replay no script: `check`, `sign` and `vegas`, over a reader and two writers.
 #![tactic(auto)]
 
 mod check_command;

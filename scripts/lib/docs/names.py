@@ -3,7 +3,7 @@
 The pages are README.md, CHANGELOG.md and docs/*.md. The tree is every text file except the pages,
 built files and mutants. Comments of Rattle code don't count. These are looked up:
 
-  a path           `docs/MODEL.md`, `spool/src/load*.rt`, `drill/specs/{Moves,Tickets}.antt`,
+  a path           `docs/MODEL.md`, `spool_load/src/*.rt`, `drill/specs/{Moves,Tickets}.antt`,
                    `Waits.antt`, `crates/NAME/wrong/`
   a member         `Vault::commit` in an `impl`, `trait` or `enum` of that name; `drill::run` in
                    that crate; `Desk::{seal, settle}`

@@ -5,8 +5,8 @@ use Rattle.sqlite.specs.Held.{state}
 use Rattle.relay_types.specs.Records.{records_of}
 use Rattle.spool_write.specs.Entering.{Enters, EntersWhole}
 use Rattle.spool_sql.proofs.StepLemmas.{spares_then}
-use Rattle.spool_write.proofs.EntryLemmas.{enters_then, enters_stopped, enters_whole, records_more, records_split, step_some}
-use Rattle.spool_write.proofs.EntryLemmas.{step_room, got_step}
+use Rattle.spool_write.proofs.EntryLemmas.{enters_then, enters_stopped, enters_whole, records_more, records_split}
+use Rattle.spool_write.proofs.EntryLemmas.{step_some, step_room, got_step}
 use Rattle.spool_write.proofs.records.write_records.Goals as goal
 
 pub write_step-requires-clause-some : goal.write_step-requires-clause-some
