@@ -1,4 +1,4 @@
--- What a commit makes of the rows of a legal history, what a stop leaves of it, and what is told of its end.
+-- What a commit makes of the rows of a legal history, what a stop leaves of it, and how its end is reported.
 use Rattle.std.specs.Prelude.{◌≡◌, ◌⊎◌, ℕ, ◌+◌, Bool, true, false, List, ◌++◌}
 use Rattle.std.specs.Prelude.{IsTrue, Result, Ok, Err}
 use Rattle.sqlite.specs.declared.error.Error.{Error}
