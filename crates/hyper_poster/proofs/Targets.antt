@@ -4,8 +4,7 @@ use Rattle.std.proofs.lemmas.Bool.{and_parts, eqb-true}
 use Rattle.std.proofs.lemmas.Bool.Decides.{nat_tests}
 use Rattle.std.specs.List.{list_all, prefix_len}
 use Rattle.http_uri.specs.Grammar.{without_fragment}
-use Rattle.relay_types.specs.Values.{Text, is_path_character}
-use Rattle.webhook_request.specs.Requests.{is_request_target}
+use Rattle.relay_types.specs.Values.{Text, is_path_character, is_request_target}
 
 not_hash_by : (c : ℕ) (b : Bool) → (c == 35) ≡ b → IsTrue (is_path_character c) → b ≡ false
 not_hash_by c false e h = refl

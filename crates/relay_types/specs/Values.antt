@@ -1,5 +1,5 @@
 -- The rules that the small values keep.
-use Rattle.std.specs.Prelude.{◌≡◌, ℕ, ◌+◌, ◌-◌, ◌*◌, Bool, true, ◌&&◌, ◌||◌, ◌==◌, nat_le, nat_lt, List, [], ◌∷◌}
+use Rattle.std.specs.Prelude.{◌≡◌, ℕ, ◌+◌, ◌-◌, ◌*◌, Bool, true, false, ◌&&◌, ◌||◌, ◌==◌, nat_le, nat_lt, List, [], ◌∷◌}
 use Rattle.std.specs.Prelude.{length, take, drop, fold, Option, Some, None, slice_get, codes, nat_eq, not, refl}
 use Rattle.std.specs.List.{list_all, list_any, before_first, starts_with}
 use Rattle.std.specs.Str.{str_eq_ignore_ascii_case}
@@ -142,6 +142,11 @@ path_of_part (slash ∷ rest) = slash ∷ rest
 
 abbrev pub path_of : List ℕ → List ℕ
 path_of text = path_of_part (path_part_of text)
+
+-- what a request asks for: `/` and characters of a path, of which `?` is one
+abbrev pub is_request_target : List ℕ → Bool
+is_request_target [] = false
+is_request_target (c ∷ rest) = c == 47 && list_all is_path_character (c ∷ rest)
 
 abbrev pub is_max_limit : ℕ → Bool
 is_max_limit n = is_between 1 MAX_LIMIT n

@@ -2,7 +2,7 @@
 ghost use Rattle.std.specs.Prelude.{◌≡◌, ◌≤◌, ◌↔◌, ◌⊎◌, ◌==◌, length, drop, true, false, IsTrue, IfOk, IfErr};
 ghost use Rattle.std.specs.List.{list_all, before_first, position, position_or_len};
 ghost use Rattle.relay_types.specs.Values.{is_digit, has_scheme, behind_scheme, authority_of, path_part_of, host_of};
-ghost use Rattle.relay_types.specs.Values.{port_part_of};
+ghost use Rattle.relay_types.specs.Values.{port_part_of, is_request_target};
 ghost use Rattle.relay_types.specs.Values.{is_host, is_host_character, is_port, is_port_part, is_path_character};
 ghost use Rattle.relay_types.specs.Values.{is_path_mark, is_target};
 ghost use Rattle.relay_types.specs.Values.{number_of, number_of_part, path_of_part, port_of, path_of, is_visible};
@@ -75,7 +75,8 @@ impl Target {
 
     /// The host as written.
     pub fn host(&self) -> &[u8]
-        ensures { result.now ≡ host_of self.now }
+        ensures text { result.now ≡ host_of self.now }
+        ensures valid { IsTrue (is_host result.now) }
     {
         host(self.as_bytes())
     }
@@ -98,6 +99,8 @@ impl Target {
     /// The path with its query as written, `/` where none is written: what a request asks for.
     pub fn path(&self) -> &[u8]
         ensures text { result.now ≡ path_of self.now }
+        ensures valid { IsTrue (is_request_target result.now) }
+        ensures most { length result.now ≤ MAX_TARGET_BYTES }
         ensures visible { IsTrue (is_visible result.now) }
     {
         path_of_part(path_part(self.as_bytes()))

@@ -1,2 +1,1 @@
 pub mod Printable
-pub mod UrlLaws

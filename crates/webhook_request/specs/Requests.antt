@@ -1,8 +1,8 @@
 -- The request of a post to a subscriber.
-use Rattle.std.specs.Prelude.{ℕ, Bool, false, ◌||◌, ◌&&◌, ◌==◌, List, [], ◌∷◌, ◌++◌, length, codes, decimal}
+use Rattle.std.specs.Prelude.{ℕ, Bool, ◌||◌, List, [], ◌∷◌, ◌++◌, length, codes, decimal}
 use Rattle.std.specs.List.{list_all}
 use Rattle.relay_types.specs.Values.{Text, Seconds, is_between, is_lower, is_one_of, is_text}
-use Rattle.relay_types.specs.Values.{authority_of, host_of, port_of, path_of, is_path_character}
+use Rattle.relay_types.specs.Values.{authority_of, host_of, port_of, path_of}
 use Rattle.hmac_signer.specs.Signature.{signature_header}
 use Rattle.webhook_request.specs.declared.header.HeaderName.{HeaderName}
 use Rattle.webhook_request.specs.declared.header.HeaderName.TheVariants.{Host, UserAgent, ContentType, ContentLength}
@@ -35,11 +35,6 @@ is_token text = is_text 1 32 (λ c. is_lower c || is_one_of (codes "-") c) text
 -- visible characters of ASCII, and spaces
 abbrev pub is_printable : Text → Bool
 is_printable text = list_all (is_between 32 126) text
-
--- what a request asks for: `/` and characters of a path, of which `?` is one
-abbrev pub is_request_target : Text → Bool
-is_request_target [] = false
-is_request_target (c ∷ rest) = c == 47 && list_all is_path_character (c ∷ rest)
 
 -- where a request is sent, and what it says
 pub record Request : Type 0 where

@@ -1,8 +1,8 @@
 //! The request of a post to a subscriber.
 ghost use Rattle.std.specs.Prelude.{◌≡◌, ◌≤◌, ◌++◌, [], ◌∷◌, length, codes, IsTrue, IfOk, OnOk};
 ghost use Rattle.relay_types.specs.declared.limits.TheConstants.{MAX_TARGET_BYTES};
-ghost use Rattle.relay_types.specs.Values.{is_host, is_visible};
-ghost use Rattle.webhook_request.specs.Requests.{header, is_printable, is_request_target};
+ghost use Rattle.relay_types.specs.Values.{is_host, is_request_target, is_visible};
+ghost use Rattle.webhook_request.specs.Requests.{header, is_printable};
 ghost use Rattle.webhook_request.specs.Requests.{connection_headers, webhook_headers, request_of};
 
 use crate::header::{Header, HeaderName};
@@ -67,7 +67,6 @@ impl Outgoing {
         ensures text { result.now ≡ self.now.host }
         ensures valid { IsTrue (is_host self.now.host) }
     {
-        let _url = self.target.as_bytes();
         self.target.host()
     }
 
@@ -92,7 +91,6 @@ impl Outgoing {
         ensures most { length self.now.target ≤ MAX_TARGET_BYTES }
         ensures visible { IsTrue (is_visible self.now.target) }
     {
-        let _url = self.target.as_bytes();
         self.target.path()
     }
 

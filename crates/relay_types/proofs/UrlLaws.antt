@@ -1,4 +1,4 @@
--- The path of a URL that is a target.
+-- The host and the path of a target.
 use Rattle.std.proofs.Common.{◌≡◌, ◌≤◌, ℕ, suc, ◌+◌, ◌==◌, Bool, true, false, not, cond, [], ◌∷◌, length, take, drop}
 use Rattle.std.proofs.Common.{length-drop, IsTrue, refl, subst, arith, nat_le, ◌&&◌}
 use Rattle.std.specs.List.{list_all, before_first, position_or_len}
@@ -6,17 +6,21 @@ use Rattle.std.proofs.lemmas.Bool.{and_parts, and_from}
 use Rattle.relay_types.specs.declared.limits.TheConstants.{MAX_TARGET_BYTES}
 use Rattle.relay_types.specs.Values.{Text, is_target, has_scheme, is_host, host_of, is_port_part, port_part_of}
 use Rattle.relay_types.specs.Values.{behind_scheme, authority_of, path_part_of, path_of_part, path_of}
-use Rattle.relay_types.specs.Values.{is_path_character}
-use Rattle.webhook_request.specs.Requests.{is_request_target}
+use Rattle.relay_types.specs.Values.{is_path_character, is_request_target}
 
-last_holds : (a b c d e : Bool) → IsTrue (a && (b && (c && (d && e)))) → IsTrue e
-last_holds a b c d e h =
-    (and_parts d e (and_parts c (d && e) (and_parts b (c && (d && e)) (and_parts a (b && (c && (d && e))) h).1).1).1).1
+parts : (a b c d e : Bool) → IsTrue (a && (b && (c && (d && e)))) → IsTrue c × IsTrue e
+parts a b c d e h =
+    let rest = and_parts c (d && e) (and_parts b (c && (d && e)) (and_parts a (b && (c && (d && e))) h).1).1 in
+    (rest.0, (and_parts d e rest.1).1)
 
-target_path : (text : Text) → IsTrue (is_target text) → IsTrue (list_all is_path_character (path_part_of text))
-target_path text =
-    last_holds (nat_le (length text) MAX_TARGET_BYTES) (has_scheme text) (is_host (host_of text))
+target_parts : (text : Text) → IsTrue (is_target text)
+    → IsTrue (is_host (host_of text)) × IsTrue (list_all is_path_character (path_part_of text))
+target_parts text =
+    parts (nat_le (length text) MAX_TARGET_BYTES) (has_scheme text) (is_host (host_of text))
     (is_port_part (port_part_of text)) (list_all is_path_character (path_part_of text))
+
+pub target_host : (text : Text) → IsTrue (is_target text) → IsTrue (is_host (host_of text))
+target_host text h = (target_parts text h).0
 
 -- nothing, or it begins with `/`
 abbrev begins : Text → Bool
@@ -42,7 +46,7 @@ part_asks [] starts all = refl
 part_asks (c ∷ rest) starts all = and_from (c == 47) (list_all is_path_character (c ∷ rest)) starts all
 
 pub asks_for_path : (text : Text) → IsTrue (is_target text) → IsTrue (is_request_target (path_of text))
-asks_for_path text h = part_asks (path_part_of text) (from-begins (behind_scheme text)) (target_path text h)
+asks_for_path text h = part_asks (path_part_of text) (from-begins (behind_scheme text)) (target_parts text h).1
 
 short_part : (part : Text) → length part ≤ MAX_TARGET_BYTES → length (path_of_part part) ≤ MAX_TARGET_BYTES
 short_part [] h = omega arith
