@@ -1,7 +1,7 @@
 -- Reads of a legal history are refused only for memory or by the store.
-use Rattle.std.proofs.Common.{◌≡◌, ◌≤◌, ◌-◌, Some, List}
-use Rattle.std.proofs.Common.{length, IsTrue}
-use Rattle.std.specs.Prelude.{slice_get}
+use Rattle.std.proofs.Common.{◌≡◌, true, false, List, IsTrue}
+use Rattle.std.specs.Prelude.{nat_lt}
+use Rattle.std.specs.Option.{option_map_or}
 use Rattle.sqlite.specs.State.{State, HasCleanDisk, IsUnchanged, Survives}
 use Rattle.relay_types.specs.Rows.{Rows}
 use Rattle.relay_types.specs.Values.{Seq}
@@ -12,6 +12,7 @@ use Rattle.spool_sql.specs.Steps.{Spares}
 use Rattle.spool_sql.specs.Stored.{IsPage, IsTables}
 use Rattle.spool_sql.proofs.BothRefused.{refusal_since}
 use Rattle.spool_sql.specs.Reading.{ComeNext}
+use Rattle.spool_sql.proofs.PageLaws.{last_number}
 use Rattle.spool_load.proofs.QuietReads.{IsQuiet, IsReadTo, clean_before, comes_next, page_rises, quiet_look}
 use Rattle.spool_load.proofs.QuietReads.{quiet_then, tables_along}
 
@@ -56,7 +57,8 @@ module _ {X : Type 0} (number : X → Seq) (table : List X) (a b m : State) (row
       refused open_m here (comes_next number table P from page both.0 both.1))
 
   -- its last row isn't below the number where it begins
-  pub page_ends : (last : X) → slice_get page (length page - 1) ≡ Some last → HasCleanDisk m → IsTrue a.is_open
-      → IsTables a.now rows → from ≤ number last
-  page_ends last is clean is_open tables = let both = is_page clean is_open tables in page_rises number table P from
-      page last both.0 both.1 is
+  pub page_ends : HasCleanDisk m → IsTrue a.is_open → IsTables a.now rows
+      → option_map_or (λ last. nat_lt last from) (last_number number page) false ≡ true → ⊥
+  page_ends clean is_open tables =
+      let both = is_page clean is_open tables in
+      page_rises number table P from page both.0 both.1

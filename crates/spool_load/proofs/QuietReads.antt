@@ -1,7 +1,8 @@
 -- Reads that change nothing, one after another, and the rows that they read.
-use Rattle.std.proofs.Common.{◌≡◌, ◌≤◌, ◌-◌, List, [], ◌∷◌, ◌++◌, Some, length, map, drop, IsTrue, sym, ap, subst, ◌∙◌}
+use Rattle.std.proofs.Common.{◌≡◌, ◌≤◌, true, false, List, [], ◌∷◌, ◌++◌, map, drop, IsTrue, sym, ap, subst, ◌∙◌}
 use Rattle.std.proofs.Common.{arith, append-nil, append_assoc}
-use Rattle.std.specs.Prelude.{slice_get}
+use Rattle.std.specs.Prelude.{nat_lt}
+use Rattle.std.specs.Option.{option_map_or}
 use Rattle.std.proofs.lemmas.List.{map-append}
 use Rattle.sqlite.specs.State.{State, HasCleanDisk, IsUnchanged}
 use Rattle.sqlite.proofs.Callers.{unchanged_then}
@@ -14,7 +15,8 @@ use Rattle.spool_sql.specs.Steps.{Spares}
 use Rattle.spool_sql.proofs.StepLemmas.{spares_then}
 use Rattle.spool_sql.specs.Reading.{IsRising, IsLeft, ComeNext, ReadsOn}
 use Rattle.spool_sql.proofs.StepLemmas.{spares_none}
-use Rattle.spool_sql.proofs.PageLaws.{IsBehind, left_all, none_left, not_fallen, page_is, parted_page}
+use Rattle.spool_sql.proofs.PageLaws.{behind_page, last_number, left_all, next_from, none_left, page_is, parted_page}
+use Rattle.spool_sql.proofs.PageLaws.{rises_on}
 
 -- What the reads leave
 
@@ -56,11 +58,10 @@ module _ {X : Type 0} (number : X → Seq) (table : List X) where
   pub read_none : (P : List X → Type 0) → IsRising number 0 MAX_RECORDS table → P [] → IsReadTo P 0
   read_none P rises none = ([], table, left_all number table rises, none)
 
-  read_page : (P Q : List X → Type 0) (from next : Seq) (page : List X) → ReadsOn table P Q page
-      → ((read left : List X) → IsLeft number from table read left → IsBehind number next table read left page)
-      → IsReadTo P from → IsReadTo Q next
-  read_page P Q from next page reads behind (read, left, h, so_far) =
-      let after = behind read left h in
+  read_page : (P Q : List X → Type 0) (from : Seq) (page : List X) → ReadsOn table P Q page → from ≤ MAX_RECORDS
+      → IsPage number from table page → IsReadTo P from → IsReadTo Q (next_from number page)
+  read_page P Q from page reads bound is (read, left, h, so_far) =
+      let after = behind_page number from table read left page bound h is in
       (read ++ page, after.0, after.2, reads read after.0 (h.parted ∙ ap (λ rest. read ++ rest) after.1) so_far)
 
   -- one page more, looked up after the reads before, and taken in
@@ -69,16 +70,15 @@ module _ {X : Type 0} (number : X → Seq) (table : List X) where
       → (HasCleanDisk b → IsTables a.now rows → IsReadTo P from)
       → (HasCleanDisk m → IsTables b.now rows → IsPage number from table page)
       → (HasCleanDisk z → IsTables m.now rows → ReadsOn table P Q page)
-      → ((read left : List X) → IsLeft number from table read left → IsPage number from table page
-      → IsBehind number next table read left page) → HasCleanDisk z → IsTables a.now rows → IsReadTo Q next
-  page_then a b m z rows P Q from next page quiet look same step so_far found reads behind clean tables =
+      → from ≤ MAX_RECORDS → next ≡ next_from number page → HasCleanDisk z → IsTables a.now rows → IsReadTo Q next
+  page_then a b m z rows P Q from next page quiet look same step so_far found reads bound is clean tables =
       let at_m = clean_before m z step clean in
       let at_b = clean_before b m look at_m in
       let unchanged = same at_m in
       let there = tables_along a b rows quiet at_b unchanged.0.was_open tables in
       let here = subst (λ d. IsTables d rows) (sym unchanged.0.now_is) there in
-      read_page P Q from next page (reads clean here) (λ read left h. behind read left h (found at_m there))
-      (so_far at_b tables)
+      subst (IsReadTo Q) (sym is)
+      (read_page P Q from page (reads clean here) bound (found at_m there) (so_far at_b tables))
 
   -- a page from there on comes next
   pub comes_next : (P : List X → Type 0) (from : Seq) (page : List X) → IsReadTo P from → IsPage number from table page
@@ -88,9 +88,9 @@ module _ {X : Type 0} (number : X → Seq) (table : List X) where
       (read, drop page_rows left, h.parted ∙ ap (λ rest. read ++ rest) parted, so_far)
 
   -- and the last of its rows isn't below that number
-  pub page_rises : (P : List X → Type 0) (from : Seq) (page : List X) (last : X) → IsReadTo P from
-      → IsPage number from table page → slice_get page (length page - 1) ≡ Some last → from ≤ number last
-  page_rises P from page last (read, left, h, so_far) is at = not_fallen number from table read left page last h is at
+  pub page_rises : (P : List X → Type 0) (from : Seq) (page : List X) → IsReadTo P from → IsPage number from table page
+      → option_map_or (λ last. nat_lt last from) (last_number number page) false ≡ true → ⊥
+  page_rises P from page (read, left, h, so_far) is = rises_on number from table read left page h is
 
   pub read_whole : (P : List X → Type 0) (from : Seq) → MAX_RECORDS ≤ from → IsReadTo P from → P table
   read_whole P from l (read, left, h, so_far) =

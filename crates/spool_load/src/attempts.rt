@@ -11,7 +11,7 @@ ghost use Rattle.spool_load.specs.Loading.{NextToAttempt};
 
 use crate::deliveries::Deliveries;
 use relay_types::MAX_RECORDS;
-use spool_sql::{AttemptRow, RowFault, Seq, behind, select_attempts};
+use spool_sql::{AttemptRow, RowFault, Seq, next_page, select_attempts};
 use sqlite::{Alter, Transaction};
 use std::alloc::Global;
 
@@ -63,10 +63,7 @@ pub fn load_attempts<S: Alter>(
     let mut from = 0;
     while from < MAX_RECORDS {
         let page = select_attempts(tx, Seq::of(from), alloc)?;
-        from = match page.last() {
-            Some(last) => behind(last.seq, from)?,
-            None => MAX_RECORDS,
-        };
+        from = next_page(page.last().map(|row| row.seq), from, MAX_RECORDS)?;
         restore_page(loaded, page)?;
     }
     Ok(())

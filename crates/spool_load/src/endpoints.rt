@@ -10,7 +10,7 @@ ghost use Rattle.spool_load.specs.Loading.{MayRestore, named_put_of};
 
 use endpoint_book::EndpointBook;
 use relay_types::{MAX_RECORDS, Name, Secrets};
-use spool_sql::{EndpointRow, RowFault, Seq, behind, select_endpoints, select_secrets};
+use spool_sql::{EndpointRow, RowFault, Seq, next_page, select_endpoints, select_secrets};
 use sqlite::{Alter, Error, Transaction};
 use std::alloc::Global;
 
@@ -133,10 +133,7 @@ pub fn load_endpoints<S: Alter>(
     let mut from = 0;
     while from < MAX_RECORDS {
         let page = select_endpoints(tx, Seq::of(from), alloc)?;
-        from = match page.last() {
-            Some(last) => behind(last.put, from)?,
-            None => MAX_RECORDS,
-        };
+        from = next_page(page.last().map(|row| row.put), from, MAX_RECORDS)?;
         restore_page(tx, &mut loaded, page, alloc)?;
     }
     Ok(loaded)

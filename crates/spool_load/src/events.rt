@@ -17,7 +17,7 @@ use crate::deliveries::Deliveries;
 use crate::endpoints::NamedPut;
 use delivery_book::DeliveryBook;
 use relay_types::{MAX_RECORDS, Moment, MsgId, Name};
-use spool_sql::{DeliveryRow, RowFault, Seq, behind, select_deliveries};
+use spool_sql::{DeliveryRow, RowFault, Seq, next_page, select_deliveries};
 use sqlite::{Alter, Error, Transaction};
 use std::alloc::Global;
 
@@ -103,10 +103,7 @@ pub fn load_deliveries<S: Alter>(
     let mut from = 0;
     while from < MAX_RECORDS {
         let page = select_deliveries(tx, Seq::of(from), alloc)?;
-        from = match page.last() {
-            Some(last) => behind(last.seq, from)?,
-            None => MAX_RECORDS,
-        };
+        from = next_page(page.last().map(|row| row.seq), from, MAX_RECORDS)?;
         accept_page(&mut loaded, names, page)?;
     }
     Ok(loaded)

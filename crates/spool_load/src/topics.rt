@@ -14,7 +14,7 @@ ghost use Rattle.spool_load.specs.Loading.{NextToSubscribe, Subscribes};
 use crate::endpoints::Endpoints;
 use crate::events::name_of;
 use relay_types::{MAX_RECORDS, Name};
-use spool_sql::{RowFault, Seq, TopicRow, behind, select_topics};
+use spool_sql::{RowFault, Seq, TopicRow, next_page, select_topics};
 use sqlite::{Alter, Error, Transaction};
 use std::alloc::Global;
 
@@ -71,10 +71,7 @@ pub fn load_topics<S: Alter>(
     let mut from = 0;
     while from < MAX_RECORDS {
         let page = select_topics(tx, Seq::of(from), alloc)?;
-        from = match page.last() {
-            Some(last) => behind(last.set_by, from)?,
-            None => MAX_RECORDS,
-        };
+        from = next_page(page.last().map(|row| row.set_by), from, MAX_RECORDS)?;
         subscribe_page(loaded, page)?;
     }
     Ok(())

@@ -1,11 +1,14 @@
 -- The pages of a table whose numbers rise, one after another, are the table.
 use Rattle.std.proofs.Common.{◌≡◌, inl, inr, ◌<◌, ◌≤◌, ℕ, zero, suc, ◌+◌, ◌==◌, Bool, true, false, cond, List, [], ◌∷◌}
 use Rattle.std.proofs.Common.{◌++◌, ◌-◌, Option, Some, None, map, length, take, drop, get_or, ltb, refl, sym, ap, subst}
-use Rattle.std.proofs.Common.{◌∙◌, arith, append-nil, append_assoc}
-use Rattle.std.specs.Prelude.{filter, find, filter_map, nat_le, nat_lt, option_map, slice_get, slice_index_or}
+use Rattle.std.proofs.Common.{◌∙◌, Bor, arith, append-nil, append_assoc}
+use Rattle.std.specs.Prelude.{MatchOption, filter, find, filter_map, nat_le, nat_lt, option_map, slice_get}
+use Rattle.std.specs.Prelude.{slice_index_or}
+use Rattle.std.specs.Option.{IsSomeAnd, option_copied, option_map_or}
 use Rattle.std.specs.List.{cons_option, enumerate_from, list_all, list_any}
 use Rattle.std.specs.List.Sorted.{IsPartitionedBy, IsPermutation, IsNonDecreasingBy}
-use Rattle.std.proofs.lemmas.Bool.{le-leb, leb-true, lt-leb, lt-ltb, le-ltb, eq-eqb, ne_eqb, cases_eq, cases_lt}
+use Rattle.std.proofs.lemmas.Bool.{le-leb, leb-true, lt-leb, lt-ltb, le-ltb, ltb-true, eq-eqb, ne_eqb, cases_eq}
+use Rattle.std.proofs.lemmas.Bool.{cases_lt}
 use Rattle.std.proofs.lemmas.List.{length-map, take-append-drop}
 use Rattle.std.proofs.lemmas.List.Elements.{filter-append}
 use Rattle.std.specs.Iterator.{Yields}
@@ -21,6 +24,15 @@ use Rattle.relay_types.proofs.KnownLaws.{and_second}
 use Rattle.relay_types.proofs.TableLaws.{In}
 use Rattle.spool_sql.specs.Stored.{IsPage, page_rows}
 use Rattle.spool_sql.specs.Reading.{IsRising, IsLeft}
+
+no_last : {X : Type 0} (xs : List X) → slice_get xs (length xs - 1) ≡ None → xs ≡ []
+no_last [] is = refl
+no_last (x ∷ xs) is = absurd (there x xs (length (x ∷ xs) - 1) (omega arith) is)
+  where
+    there : {X : Type 0} (x : X) (xs : List X) (k : ℕ) → k < length (x ∷ xs) → slice_get (x ∷ xs) k ≡ None → ⊥
+    there x xs zero below lost = cc
+    there x [] (suc k) below lost = omega (arith, below)
+    there x (y ∷ ys) (suc k) below lost = there y ys k (omega (arith, below)) lost
 
 module _ {X : Type 0} (number : X → ℕ) where
   -- Rising numbers
@@ -276,7 +288,7 @@ module _ {X : Type 0} (number : X → ℕ) where
   parted_page from xs read left page h is = sym (take-append-drop page_rows left) ∙ ap (λ ys. ys ++ drop page_rows left)
       (sym is)
 
-  pub behind_some : (from next : ℕ) (xs read left page : List X) (last : X) → IsLeft number from xs read left
+  behind_some : (from next : ℕ) (xs read left page : List X) (last : X) → IsLeft number from xs read left
       → IsPage number from xs page → slice_get page (length page - 1) ≡ Some last → next ≡ number last + 1
       → IsBehind next xs read left page
   behind_some from next xs read left page last h p is at =
@@ -289,7 +301,7 @@ module _ {X : Type 0} (number : X → ℕ) where
             (behind_last-is from page last is ∙ sym at) (left_behind from xs read page (drop page_rows left) there),
       )
 
-  pub behind_none : (from : ℕ) (xs read left page : List X) → from ≤ MAX_RECORDS → IsLeft number from xs read left
+  behind_none : (from : ℕ) (xs read left page : List X) → from ≤ MAX_RECORDS → IsLeft number from xs read left
       → IsPage number from xs page → page ≡ [] → IsBehind MAX_RECORDS xs read left page
   behind_none from xs read left page l h p none =
       subst (IsBehind MAX_RECORDS xs read left) (sym none) (
@@ -298,6 +310,23 @@ module _ {X : Type 0} (number : X → ℕ) where
         subst (λ ys. IsLeft number MAX_RECORDS xs ys left) (sym (append-nil read))
             (read_all from xs read left l h (sym (page_is from xs read left page h p) ∙ none)),
       )
+
+  -- the number of its last row
+  abbrev pub last_number : List X → Option ℕ
+  last_number page = option_map number (slice_get page (length page - 1))
+
+  -- where the next page begins
+  abbrev pub next_from : List X → ℕ
+  next_from page = option_map_or (λ last. last + 1) (last_number page) MAX_RECORDS
+
+  pub behind_page : (from : ℕ) (xs read left page : List X) → from ≤ MAX_RECORDS → IsLeft number from xs read left
+      → IsPage number from xs page → IsBehind (next_from page) xs read left page
+  behind_page from xs read left page l h p = at (slice_get page (length page - 1)) refl
+    where
+      at : (s : Option X) → slice_get page (length page - 1) ≡ s
+          → IsBehind (option_map_or (λ last. last + 1) (option_map number s) MAX_RECORDS) xs read left page
+      at (Some last) is = behind_some from (number last + 1) xs read left page last h p is refl
+      at None is = behind_none from xs read left page l h p (no_last page is)
 
   -- One of a list whose numbers rise is found by its number
 
@@ -316,13 +345,26 @@ module _ {X : Type 0} (number : X → ℕ) where
       (rising_find (number y + 1) b k ys x h.1 is)
 
   -- the last row of a page isn't below the number where the page begins
-  pub not_fallen : (from : ℕ) (xs read left page : List X) (last : X) → IsLeft number from xs read left
+  not_fallen : (from : ℕ) (xs read left page : List X) (last : X) → IsLeft number from xs read left
       → IsPage number from xs page → slice_get page (length page - 1) ≡ Some last → from ≤ number last
   not_fallen from xs read left page last h p at =
       let parted = parted_page from xs read left page h (page_is from xs read left page h p) in
       let rises = rising_parts from MAX_RECORDS page (drop page_rows left)
       (subst (IsRising number from MAX_RECORDS) parted h.behind) in
       rising_get from (behind_last from page) (length page - 1) page last rises.0 at
+
+  pub rises_on : (from : ℕ) (xs read left page : List X) → IsLeft number from xs read left → IsPage number from xs page
+      → option_map_or (λ last. nat_lt last from) (last_number page) false ≡ true → ⊥
+  rises_on from xs read left page h p = at (slice_get page (length page - 1)) refl
+    where
+      at : (s : Option X) → slice_get page (length page - 1) ≡ s
+          → option_map_or (λ last. nat_lt last from) (option_map number s) false ≡ true → ⊥
+      at (Some last) is fallen = omega (
+        arith,
+        ltb-true (number last) from fallen,
+        not_fallen from xs read left page last h p is,
+      )
+      at None is fallen = let no = fallen in cc
 
   -- No other number is found than at the place where the greater ones begin
 
@@ -439,19 +481,24 @@ get_map f [] k = refl
 get_map f (x ∷ xs) zero = refl
 get_map f (x ∷ xs) (suc k) = get_map f xs k
 
-pub last_read : {X Y : Type 0} (f : X → Y) (xs : List X) (x : X) → Some x ≡ slice_get xs (length xs - 1)
-    → slice_get (map f xs) (length (map f xs) - 1) ≡ Some (f x)
-last_read f xs x is = ap (λ n. slice_get (map f xs) (n - 1)) (length-map xs f) ∙ get_map f xs (length xs - 1)
-    ∙ ap (option_map f) (sym is)
-
-pub none_read : {X Y : Type 0} (f : X → Y) (xs : List X) → None ≡ slice_get xs (length xs - 1) → map f xs ≡ []
-none_read f [] is = refl
-none_read f (x ∷ xs) is = absurd (there x xs (length (x ∷ xs) - 1) (omega arith) is)
+pub last_read : {X Y : Type 0} (f : X → Y) (number : Y → ℕ) (xs : List X) (last : Option (Bor X)) (n : Option ℕ)
+    (P : Bor X → ℕ → Type 0) → option_copied last ≡ slice_get xs (length xs - 1)
+    → MatchOption last (n ≡ None) (λ x. IsSomeAnd n (P x)) → ((x : Bor X) (k : ℕ) → P x k → k ≡ number (f x.now))
+    → n ≡ last_number number (map f xs)
+last_read {X} f number xs last n P is cases each =
+    those last n cases ∙ ap (option_map (λ x. number (f x))) is ∙ composed (slice_get xs (length xs - 1))
+    ∙ ap (option_map number) (sym (get_map f xs (length xs - 1))
+    ∙ ap (λ k. slice_get (map f xs) (k - 1)) (sym (length-map xs f)))
   where
-    there : {X : Type 0} (x : X) (xs : List X) (k : ℕ) → k < length (x ∷ xs) → None ≡ slice_get (x ∷ xs) k → ⊥
-    there x xs zero below lost = cc
-    there x [] (suc k) below lost = omega (arith, below)
-    there x (y ∷ ys) (suc k) below lost = there y ys k (omega (arith, below)) lost
+    those : (s : Option (Bor X)) (o : Option ℕ) → MatchOption s (o ≡ None) (λ x. IsSomeAnd o (P x))
+        → o ≡ option_map (λ x. number (f x)) (option_copied s)
+    those None o none = none
+    those (Some x) (Some k) so = ap Some (each x k so)
+    those (Some x) None so = absurd so
+
+    composed : (s : Option X) → option_map (λ x. number (f x)) s ≡ option_map number (option_map f s)
+    composed None = refl
+    composed (Some x) = refl
 
 pub map_itself : {X : Type 0} (xs : List X) → map (λ y. y) xs ≡ xs
 map_itself [] = refl

@@ -25,7 +25,7 @@ pub use crate::delivery::{select_endpoint, select_statuses};
 pub use crate::find::{count_endpoints, count_topics, has_topic, select_put};
 pub use crate::migrate::{create_topics, update_version};
 pub use crate::opened::{is_empty, prepare_probe, probe};
-pub use crate::page::{behind, error_of};
+pub use crate::page::{error_of, next_page};
 pub use crate::purge::{delete_attempts, delete_delivery, select_events, select_tries};
 pub use crate::read::{
     select_attempts, select_deliveries, select_endpoints, select_records, select_secrets,

@@ -16,7 +16,7 @@ ghost use Rattle.spool_write.specs.Entering.{AreInTurn, Enters, are_past, is_pas
 use relay_types::{MAX_FAILURES, Moment};
 use retry_table::{is_delivered, is_failed};
 use spool_sql::{
-    Seq, Tried, behind, delete_attempts, delete_delivery, error_of, select_events, select_tries,
+    Seq, Tried, delete_attempts, delete_delivery, error_of, next_page, select_events, select_tries,
 };
 use sqlite::{Alter, Error, Transaction};
 
@@ -50,10 +50,7 @@ fn behind_page(page: &[Seq], from: u64, end: u64) -> Result<u64, Error>
     ensures number { IfOk result (λ next. next ≡ option_map_or (λ last. last + 1) (last_of page.now) (end + 1)) }
     ensures above { IfOk result (λ next. from < next) }
 {
-    match page.last() {
-        Some(last) => behind(*last, from).map_err(|fault| error_of(fault)),
-        None => Ok(end + 1),
-    }
+    next_page(page.last().copied(), from, end + 1).map_err(|fault| error_of(fault))
 }
 
 // Takes out the events of this page that ended, the last attempt at each before this moment. Its numbers must rise.

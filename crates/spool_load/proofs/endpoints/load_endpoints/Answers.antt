@@ -5,13 +5,12 @@ use Rattle.endpoint_book.specs.Entries.{BookValue, empty_book}
 use Rattle.spool_sql.specs.Stored.{endpoint_of}
 use Rattle.spool_sql.proofs.ReadableLemmas.{handed_on}
 use Rattle.spool_load.specs.Loading.{AreRestored, IsReadRefusal}
-use Rattle.spool_sql.proofs.PageLaws.{behind_some, behind_none, last_read, none_read}
+use Rattle.spool_sql.proofs.PageLaws.{last_read}
 use Rattle.spool_load.proofs.QuietReads.{quiet_none, quiet_look, quiet_then, page_then, read_whole}
 use Rattle.spool_load.proofs.EndpointLoads.{restored_none}
 use Rattle.spool_sql.proofs.LegalRows.{legal_readable}
 use Rattle.spool_load.proofs.PageReads.{page_ends, page_refused, refused_behind}
 use Rattle.spool_load.proofs.endpoints.load_endpoints.Goals as goal
-use Rattle.spool_load.proofs.endpoints.load_endpoints.Goals.{in-Some+in_ok-from-in-Some, in-None}
 
 pub loop-from-init : goal.loop-from-init
 loop-from-init g c =
@@ -36,43 +35,22 @@ loop-from-preserved g c =
     let quiet = quiet_then a b z so_far.quiet (quiet_then b m z (quiet_look b m look.spares look.unchanged)
     (record { spares = step.spares; unchanged = step.unchanged })) in
     let items = c.in_ok-page.page.items in
-    elim c.match-last.branch [
-      | in-Some+in_ok-from-in-Some w ↦ rw w.from-is (record {
-        same_reference = step.same_reference ∙ look.same_reference ∙ so_far.same_reference;
-        quiet = quiet;
-        settled = step.settled;
-        bound = w.in_ok-from-in-Some.ensures.room;
-        done = λ clean records legal.
-            page_then (λ (e : EndpointRow). e.put) (rows_of records).endpoints a b m z (rows_of records)
-            (AreRestored c.loop-from.loaded records) (AreRestored c.restore_page.new.loaded records)
-            c.loop-from.from _ (map endpoint_of items)
-            so_far.quiet look.spares look.unchanged step.spares (λ early. so_far.done early records legal)
-            (λ early tables. rw c.of.ensures at (look.found early (rows_of records) tables))
-            (λ late. step.found late records legal)
-            (λ read left h page. behind_some (λ (e : EndpointRow). e.put) c.loop-from.from _ (rows_of records).endpoints
-            read left (map endpoint_of items) (endpoint_of w.in-Some.last.now) h page
-            (last_read endpoint_of items w.in-Some.last.now
-            (rw c.deref.ensures.value at (rw w.in-Some.is at c.last.ensures.value)))
-            w.in_ok-from-in-Some.ensures.number) clean;
-      })
-      | in-None w ↦ rw w.from-is (record {
-        same_reference = step.same_reference ∙ look.same_reference ∙ so_far.same_reference;
-        quiet = quiet;
-        settled = step.settled;
-        bound = omega arith;
-        done = λ clean records legal.
-            page_then (λ (e : EndpointRow). e.put) (rows_of records).endpoints a b m z (rows_of records)
-            (AreRestored c.loop-from.loaded records) (AreRestored c.restore_page.new.loaded records)
-            c.loop-from.from _ (map endpoint_of items)
-            so_far.quiet look.spares look.unchanged step.spares (λ early. so_far.done early records legal)
-            (λ early tables. rw c.of.ensures at (look.found early (rows_of records) tables))
-            (λ late. step.found late records legal)
-            (λ read left h page. behind_none (λ (e : EndpointRow). e.put) c.loop-from.from (rows_of records).endpoints
-            read left (map endpoint_of items) so_far.bound h page
-            (none_read endpoint_of items (rw c.deref.ensures.value at (rw w.in-None.is at c.last.ensures.value))))
-            clean;
-      })
-    ]
+    let last = last_read endpoint_of (λ (e : EndpointRow). e.put) items c.last.result c.map.result _
+    (rw c.deref.ensures.value at c.last.ensures.value) c.map.ensures.cases (λ x k p. search rules) in
+    record {
+      same_reference = step.same_reference ∙ look.same_reference ∙ so_far.same_reference;
+      quiet = quiet;
+      settled = step.settled;
+      bound = c.in_ok-from.ensures.room (omega arith);
+      done = λ clean records legal.
+          page_then (λ (e : EndpointRow). e.put) (rows_of records).endpoints a b m z (rows_of records)
+          (AreRestored c.loop-from.loaded records) (AreRestored c.restore_page.new.loaded records)
+          c.loop-from.from _ (map endpoint_of items)
+          so_far.quiet look.spares look.unchanged step.spares (λ early. so_far.done early records legal)
+          (λ early tables. rw c.of.ensures at (look.found early (rows_of records) tables))
+          (λ late. step.found late records legal)
+          so_far.bound (rw last at c.in_ok-from.ensures.number) clean;
+    }
 
 pub returns-clause-found : goal.returns-clause-found
 returns-clause-found g c clean records legal tables =
@@ -92,26 +70,24 @@ returns-in_err-page-clause-refused g c clean =
     (rows_of records) _ tables (λ at_b open_b here.
     look.refused clean (rows_of records) here (legal_readable records legal)))
 
-pub returns-in_err-from-in-Some-clause-refused : goal.returns-in_err-from-in-Some-clause-refused
-returns-in_err-from-in-Some-clause-refused g c clean =
+pub returns-in_err-from-clause-refused : goal.returns-in_err-from-clause-refused
+returns-in_err-from-clause-refused g c clean =
     let a = state g.S.Store c.args.tx.now.conn.now in
     let b = state g.S.Store c.loop-from.tx.conn.now in
     let m = state g.S.Store c.select_endpoints.new.tx.conn.now in
     let so_far = c.loop-from.invariant in
     let look = c.in_ok-page.ensures in
     let items = c.in_ok-page.page.items in
-    handed_on c.from_residual-in_err-from-in-Some.result c.in_err-from-in-Some.field-0.0
-    (IsReadRefusal a m (λ _. Unit {0})) c.from_residual-in_err-from-in-Some.ensures.1
+    let last = last_read endpoint_of (λ (e : EndpointRow). e.put) items c.last.result c.map.result _
+    (rw c.deref.ensures.value at c.last.ensures.value) c.map.ensures.cases (λ x k p. search rules) in
+    handed_on c.from_residual-in_err-from.result c.in_err-from.field-0.0
+    (IsReadRefusal a m (λ _. Unit {0})) c.from_residual-in_err-from.ensures.1
     (λ is_open records legal tables given.
-    absurd (
-    let rises = page_ends (λ (e : EndpointRow). e.put) (rows_of records).endpoints a b m (rows_of records)
+    absurd (page_ends (λ (e : EndpointRow). e.put) (rows_of records).endpoints a b m (rows_of records)
     (AreRestored c.loop-from.loaded records) c.loop-from.from (map endpoint_of items)
     so_far.quiet look.spares look.unchanged (λ early. so_far.done early records legal)
     (λ early tables. rw c.of.ensures at (look.found early (rows_of records) tables))
-    (endpoint_of c.in-Some.last.now)
-    (last_read endpoint_of items c.in-Some.last.now
-    (rw c.deref.ensures.value at (rw c.in-Some.is at c.last.ensures.value))) clean is_open tables in
-    omega (arith, rises, c.in_err-from-in-Some.ensures.fallen.0 refl)))
+    clean is_open tables (rw last at c.in_err-from.ensures.fallen.0 refl)))
 
 pub returns-in_err-restore_page-clause-refused : goal.returns-in_err-restore_page-clause-refused
 returns-in_err-restore_page-clause-refused g c clean =

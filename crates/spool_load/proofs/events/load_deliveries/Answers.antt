@@ -1,17 +1,16 @@
-use Rattle.std.proofs.Common.{map, refl, ◌∙◌, arith}
+use Rattle.std.proofs.Common.{map, refl, rules, ◌∙◌, arith}
 use Rattle.sqlite.specs.Held.{state}
 use Rattle.relay_types.specs.Rows.{DeliveryRow, rows_of}
 use Rattle.spool_sql.specs.Stored.{delivery_of}
 use Rattle.spool_sql.proofs.ReadableLemmas.{handed_on, row_memory}
 use Rattle.spool_load.specs.Loading.{AreAccepted, AreNames, IsReadRefusal}
 use Rattle.spool_sql.proofs.StepLemmas.{spares_none}
-use Rattle.spool_sql.proofs.PageLaws.{behind_some, behind_none, last_read, none_read}
+use Rattle.spool_sql.proofs.PageLaws.{last_read}
 use Rattle.spool_load.proofs.QuietReads.{quiet_none, quiet_look, quiet_then, page_then, read_whole}
 use Rattle.spool_load.proofs.DeliveryLoads.{accepted_none}
 use Rattle.spool_sql.proofs.LegalRows.{legal_readable}
 use Rattle.spool_load.proofs.PageReads.{page_ends, page_refused, refused_behind}
 use Rattle.spool_load.proofs.events.load_deliveries.Goals as goal
-use Rattle.spool_load.proofs.events.load_deliveries.Goals.{in-Some+in_ok-from-in-Some, in-None}
 
 pub loop-from-init : goal.loop-from-init
 loop-from-init g c = record {
@@ -30,43 +29,22 @@ loop-from-preserved g c =
     let look = c.in_ok-page.ensures in
     let quiet = quiet_then a b m so_far.quiet (quiet_look b m look.spares look.unchanged) in
     let items = c.in_ok-page.page.items in
-    elim c.match-last.branch [
-      | in-Some+in_ok-from-in-Some w ↦ rw w.from-is (record {
-        same_reference = look.same_reference ∙ so_far.same_reference;
-        quiet = quiet;
-        bound = w.in_ok-from-in-Some.ensures.room;
-        done = λ clean records legal tables are.
-            page_then (λ (d : DeliveryRow). d.seq) (rows_of records).deliveries a b m m (rows_of records)
-            (AreAccepted c.loop-from.loaded records) (AreAccepted c.accept_page.new.loaded records) c.loop-from.from
-            _ (map delivery_of items)
-            so_far.quiet look.spares look.unchanged (spares_none m)
-            (λ early tables. so_far.done early records legal tables are)
-            (λ early tables. rw c.of-in-loop-from.ensures at (look.found early (rows_of records) tables))
-            (λ late tables. c.in_ok-accept_page.ensures.found records are)
-            (λ read left h page. behind_some (λ (d : DeliveryRow). d.seq) c.loop-from.from _
-            (rows_of records).deliveries read left (map delivery_of items) (delivery_of w.in-Some.last.now) h page
-            (last_read delivery_of items w.in-Some.last.now
-            (rw c.deref.ensures.value at (rw w.in-Some.is at c.last.ensures.value)))
-            w.in_ok-from-in-Some.ensures.number) clean tables;
-      })
-      | in-None w ↦ rw w.from-is (record {
-        same_reference = look.same_reference ∙ so_far.same_reference;
-        quiet = quiet;
-        bound = omega arith;
-        done = λ clean records legal tables are.
-            page_then (λ (d : DeliveryRow). d.seq) (rows_of records).deliveries a b m m (rows_of records)
-            (AreAccepted c.loop-from.loaded records) (AreAccepted c.accept_page.new.loaded records) c.loop-from.from
-            _ (map delivery_of items)
-            so_far.quiet look.spares look.unchanged (spares_none m)
-            (λ early tables. so_far.done early records legal tables are)
-            (λ early tables. rw c.of-in-loop-from.ensures at (look.found early (rows_of records) tables))
-            (λ late tables. c.in_ok-accept_page.ensures.found records are)
-            (λ read left h page. behind_none (λ (d : DeliveryRow). d.seq) c.loop-from.from (rows_of records).deliveries
-            read left (map delivery_of items) so_far.bound h page
-            (none_read delivery_of items (rw c.deref.ensures.value at (rw w.in-None.is at c.last.ensures.value)))) clean
-            tables;
-      })
-    ]
+    let last = last_read delivery_of (λ (d : DeliveryRow). d.seq) items c.last.result c.map.result _
+    (rw c.deref.ensures.value at c.last.ensures.value) c.map.ensures.cases (λ x k p. search rules) in
+    record {
+      same_reference = look.same_reference ∙ so_far.same_reference;
+      quiet = quiet;
+      bound = c.in_ok-from.ensures.room (omega arith);
+      done = λ clean records legal tables are.
+          page_then (λ (d : DeliveryRow). d.seq) (rows_of records).deliveries a b m m (rows_of records)
+          (AreAccepted c.loop-from.loaded records) (AreAccepted c.accept_page.new.loaded records) c.loop-from.from
+          _ (map delivery_of items)
+          so_far.quiet look.spares look.unchanged (spares_none m)
+          (λ early tables. so_far.done early records legal tables are)
+          (λ early tables. rw c.of-in-loop-from.ensures at (look.found early (rows_of records) tables))
+          (λ late tables. c.in_ok-accept_page.ensures.found records are)
+          so_far.bound (rw last at c.in_ok-from.ensures.number) clean tables;
+    }
 
 pub returns-clause-found : goal.returns-clause-found
 returns-clause-found g c clean records legal tables are =
@@ -86,26 +64,24 @@ returns-in_err-page-clause-refused g c clean =
     (rows_of records) _ tables (λ at_b open_b here.
     look.refused clean (rows_of records) here (legal_readable records legal)))
 
-pub returns-in_err-from-in-Some-clause-refused : goal.returns-in_err-from-in-Some-clause-refused
-returns-in_err-from-in-Some-clause-refused g c clean =
+pub returns-in_err-from-clause-refused : goal.returns-in_err-from-clause-refused
+returns-in_err-from-clause-refused g c clean =
     let a = state g.S.Store c.args.tx.now.conn.now in
     let b = state g.S.Store c.loop-from.tx.conn.now in
     let m = state g.S.Store c.select_deliveries.new.tx.conn.now in
     let so_far = c.loop-from.invariant in
     let look = c.in_ok-page.ensures in
     let items = c.in_ok-page.page.items in
-    handed_on c.from_residual-in_err-from-in-Some.result c.in_err-from-in-Some.field-0.0
-    (IsReadRefusal a m (AreNames c.args.names.now)) c.from_residual-in_err-from-in-Some.ensures.1
+    let last = last_read delivery_of (λ (d : DeliveryRow). d.seq) items c.last.result c.map.result _
+    (rw c.deref.ensures.value at c.last.ensures.value) c.map.ensures.cases (λ x k p. search rules) in
+    handed_on c.from_residual-in_err-from.result c.in_err-from.field-0.0
+    (IsReadRefusal a m (AreNames c.args.names.now)) c.from_residual-in_err-from.ensures.1
     (λ is_open records legal tables given.
-    absurd (
-    let rises = page_ends (λ (d : DeliveryRow). d.seq) (rows_of records).deliveries a b m (rows_of records)
+    absurd (page_ends (λ (d : DeliveryRow). d.seq) (rows_of records).deliveries a b m (rows_of records)
     (AreAccepted c.loop-from.loaded records) c.loop-from.from (map delivery_of items)
     so_far.quiet look.spares look.unchanged (λ early tables. so_far.done early records legal tables given)
     (λ early tables. rw c.of-in-loop-from.ensures at (look.found early (rows_of records) tables))
-    (delivery_of c.in-Some.last.now)
-    (last_read delivery_of items c.in-Some.last.now
-    (rw c.deref.ensures.value at (rw c.in-Some.is at c.last.ensures.value))) clean is_open tables in
-    omega (arith, rises, c.in_err-from-in-Some.ensures.fallen.0 refl)))
+    clean is_open tables (rw last at c.in_err-from.ensures.fallen.0 refl)))
 
 pub returns-in_err-accept_page-clause-refused : goal.returns-in_err-accept_page-clause-refused
 returns-in_err-accept_page-clause-refused g c clean =

@@ -12,9 +12,10 @@ same_ok (Ok x) r Q P cases it = subst (λ a. IfOk a P) (sym cases) it
 same_ok (Err e) (Ok y) Q P cases it = absurd cases
 same_ok (Err e) (Err f) Q P cases it = tt
 
-pub returns-in-Some-clause-number : goal.returns-in-Some-clause-number
-returns-in-Some-clause-number c =
+pub returns-clause-number : goal.returns-clause-number
+returns-clause-number c =
     subst (λ o. IfOk c.map_err.result (λ next. next ≡ option_map_or (λ last. last + 1) o (c.args.end + 1)))
-    (c.in-Some.ensures.value ∙ last-is c.args.page.now)
-    (same_ok c.behind.result c.map_err.result _ (λ next. next ≡ c.in-Some.last.now + 1) c.map_err.ensures.cases
-    c.behind.ensures.number)
+    (c.copied.ensures ∙ c.last.ensures.value ∙ last-is c.args.page.now)
+    (same_ok c.next_page.result c.map_err.result _
+    (λ next. next ≡ option_map_or (λ last. last + 1) c.copied.result (c.args.end + 1)) c.map_err.ensures.cases
+    c.next_page.ensures.number)
