@@ -46,7 +46,10 @@ fn find_subscribing<S: Alter>(
     let Some(put) = select_put(tx, name)? else {
         return Ok(None);
     };
-    if !has_topic(tx, topic, put)? && count_topics(tx)? >= MAX_SUBSCRIPTIONS {
+    if has_topic(tx, topic, put)? {
+        return Ok(Some(put));
+    }
+    if count_topics(tx)? >= MAX_SUBSCRIPTIONS {
         return Ok(None);
     }
     Ok(Some(put))
