@@ -1,6 +1,6 @@
 -- Which tables a store has of the relay's, by their names and their keys.
 use Rattle.std.specs.Prelude.{◌&&◌, ℕ, Bool, false, List, [], ◌∷◌, codes, nat_eq, Option, Some, None, is_some, ◌==◌}
-use Rattle.std.specs.List.{list_any}
+use Rattle.std.specs.List.{list_all, list_any}
 use Rattle.std.specs.Cmp.Lexicographic.{pointwise}
 use Rattle.sqlite.specs.Table.{Table}
 use Rattle.sqlite.specs.Schema.{Schema}
@@ -14,11 +14,13 @@ has_table schema name = is_some (table_named schema name)
 abbrev pub has_meta : Schema → Bool
 has_meta schema = has_table schema (codes "meta")
 
--- each of the five names of version 1 is a table's, whatever stands beside them
+-- the names of version 1
+abbrev pub first_names : List (List ℕ)
+first_names = codes "meta" ∷ codes "endpoints" ∷ codes "secrets" ∷ codes "deliveries" ∷ codes "attempts" ∷ []
+
+-- each of them is a table's, whatever stands beside them
 abbrev pub has_first_names : Schema → Bool
-has_first_names schema =
-    has_meta schema && (has_table schema (codes "endpoints") && (has_table schema (codes "secrets")
-    && (has_table schema (codes "deliveries") && has_table schema (codes "attempts"))))
+has_first_names schema = list_all (has_table schema) first_names
 
 -- and so is the sixth, of version 2
 abbrev pub has_names : Schema → Bool
@@ -68,9 +70,8 @@ is_topics t =
 
 -- the five tables of version 1 stand with their keys, whatever stands beside them
 abbrev pub has_first_tables : Schema → Bool
-has_first_tables schema =
-    has_meta schema && (list_any is_endpoints schema.tables && (list_any is_secrets schema.tables
-    && (list_any is_deliveries schema.tables && list_any is_attempts schema.tables)))
+has_first_tables schema = has_meta schema
+    && list_all (λ is. list_any is schema.tables) (is_endpoints ∷ is_secrets ∷ is_deliveries ∷ is_attempts ∷ [])
 
 -- and so does the sixth, of version 2
 abbrev pub has_tables : Schema → Bool
