@@ -100,21 +100,23 @@ returns-in_err-push-clause-enough c =
 
 pub invariant_of-self-2 : goal.invariant_of-self-2
 invariant_of-self-2 c =
+    let fresh = c.reserve-3 in
+    let firsts = c.reserve-2 in
     let lanes = c.self.inside.lanes.items in
     let none = none_at lanes c.args.endpoint (sym c.in_default.is ∙ c.place_of.ensures
     ∙ ap (position (is_of c.args.endpoint)) c.deref.ensures.value) in
-    let new = c.reserve-3.new.self in
-    let name = c.reserve-3.ensures.endpoint ∙ ap (λ (m : LaneState). m.endpoint) c.new-lane.ensures.state in
-    subst (λ all. IsQueue all c.reserve-2.new.self.items (vec_len c.reserve-2.new.self)
-    (vec_capacity c.reserve-2.new.self)) (sym c.in_ok-push.ensures.items)
-    (subst (λ pairs. IsQueue (lanes ++ new ∷ []) pairs (vec_len c.reserve-2.new.self)
-    (vec_capacity c.reserve-2.new.self)) (sym c.reserve-2.ensures.items)
-    (subst (λ n. IsQueue (lanes ++ new ∷ []) c.self.inside.firsts.items n (vec_capacity c.reserve-2.new.self))
-    (sym c.reserve-2.ensures.len)
-    (more lanes c.self.inside.firsts.items _ _ new (vec_capacity c.reserve-2.new.self) c.self.invariant
-    (ap (lane_in lanes) name ∙ none) c.reserve-3.ensures.sound
-    (c.reserve-3.ensures.room ∙ ap (λ (m : LaneState). m.room) c.new-lane.ensures.state)
-    (omega (arith, c.in_ok-reserve.ensures.ok, c.reserve-2.ensures.len, c.len.ensures, c.self.inside.lanes.ok.0)))))
+    let new = fresh.new.self in
+    let name = fresh.ensures.endpoint ∙ ap (λ (m : LaneState). m.endpoint) c.new-lane.ensures.state in
+    subst (λ all. IsQueue all firsts.new.self.items (vec_len firsts.new.self)
+    (vec_capacity firsts.new.self)) (sym c.in_ok-push.ensures.items)
+    (subst (λ pairs. IsQueue (lanes ++ new ∷ []) pairs (vec_len firsts.new.self)
+    (vec_capacity firsts.new.self)) (sym firsts.ensures.items)
+    (subst (λ n. IsQueue (lanes ++ new ∷ []) c.self.inside.firsts.items n (vec_capacity firsts.new.self))
+    (sym firsts.ensures.len)
+    (more lanes c.self.inside.firsts.items _ _ new (vec_capacity firsts.new.self) c.self.invariant
+    (ap (lane_in lanes) name ∙ none) fresh.ensures.sound
+    (fresh.ensures.room ∙ ap (λ (m : LaneState). m.room) c.new-lane.ensures.state)
+    (omega (arith, c.in_ok-reserve.ensures.ok, firsts.ensures.len, c.len.ensures, c.self.inside.lanes.ok.0)))))
 
 pub returns-clause-state : goal.returns-clause-state
 returns-clause-state c =

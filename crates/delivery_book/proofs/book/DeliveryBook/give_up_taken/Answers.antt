@@ -41,6 +41,7 @@ count_below-self-inside-requires c =
 
 pub invariant_of-self : goal.invariant_of-self
 invariant_of-self c =
+    let settled = c.count_out-2 in
     let b = c.self.inside in
     let m = c.count_below-self-inside.result in
     let first = c.first_purge-self-inside.result in
@@ -52,7 +53,7 @@ invariant_of-self c =
     let fourth : c.deref-4.result.now ≡ left = c.deref-4.ensures.value ∙ c.keep_left.ensures.left in
     let found = c.count_below-self-inside.ensures in
     subst
-    (λ es. IsBook es b.index c.count_out.new.tally c.count_out-2.new.tally b.unsettled.items
+    (λ es. IsBook es b.index c.count_out.new.tally settled.new.tally b.unsettled.items
     (deque_capacity b.unsettled)
     b.next_seq b.settled_seq m first)
     (sym c.keep_left.ensures.left)
@@ -60,13 +61,13 @@ invariant_of-self c =
     b.next_seq
     b.settled_seq b.settled_entries b.next_purge c.self.invariant
     (none_below b.settled_seq b.next_seq b.unsettled.items c.self.invariant.order rest)
-    c.count_out.new.tally c.count_out-2.new.tally (deque_capacity b.unsettled) m first
+    c.count_out.new.tally settled.new.tally (deque_capacity b.unsettled) m first
     (subst (λ es. HasMore c.count_out.new.tally (settled_among (filter (is_taken_below b.settled_seq) es)) b.tally)
     c.deref.ensures.value c.count_out.ensures.less)
-    (subst (λ es. HasMore c.count_out-2.new.tally (settled_among (filter (is_taken_below b.settled_seq) es))
+    (subst (λ es. HasMore settled.new.tally (settled_among (filter (is_taken_below b.settled_seq) es))
     b.settled_tally)
-    c.deref-2.ensures.value c.count_out-2.ensures.less)
-    c.count_out-2.ensures.stays
+    c.deref-2.ensures.value settled.ensures.less)
+    settled.ensures.stays
     (omega arith)
     (subst (λ es. m ≤ length es) third found.within)
     (subst (FirstBelow m b.settled_seq) third (λ k d l. found.below k d l))

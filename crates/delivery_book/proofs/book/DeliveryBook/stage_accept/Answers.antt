@@ -13,17 +13,19 @@ use Rattle.delivery_book.proofs.book.DeliveryBook.stage_accept.Goals as goal
 
 pub invariant_of-self-in_err-open-2 : goal.invariant_of-self-in_err-open-2
 invariant_of-self-in_err-open-2 c =
+    let settled = c.open-2 in
+    let queue = c.reserve-2 in
     let b = c.self.inside in
     subst
-    (λ es. IsBook es b.index c.open.new.self c.open-2.new.self c.reserve-2.new.self.items
-    (deque_capacity c.reserve-2.new.self) b.next_seq b.settled_seq b.settled_entries b.next_purge)
+    (λ es. IsBook es b.index c.open.new.self settled.new.self queue.new.self.items
+    (deque_capacity queue.new.self) b.next_seq b.settled_seq b.settled_entries b.next_purge)
     (sym c.in_ok-reserve.ensures.items)
     (subst
-    (λ us. IsBook b.entries.items b.index c.open.new.self c.open-2.new.self us (deque_capacity c.reserve-2.new.self)
+    (λ us. IsBook b.entries.items b.index c.open.new.self settled.new.self us (deque_capacity queue.new.self)
     b.next_seq b.settled_seq b.settled_entries b.next_purge)
     (sym c.in_ok-reserve-2.ensures.items)
-    (book-same b.index b.index b.tally c.open.new.self b.settled_tally c.open-2.new.self b.entries.items
-    b.unsettled.items (deque_capacity b.unsettled) (deque_capacity c.reserve-2.new.self) b.next_seq b.settled_seq
+    (book-same b.index b.index b.tally c.open.new.self b.settled_tally settled.new.self b.entries.items
+    b.unsettled.items (deque_capacity b.unsettled) (deque_capacity queue.new.self) b.next_seq b.settled_seq
     b.settled_entries b.next_purge c.self.invariant (λ name id. refl)
     (λ those. c.in_ok-open.ensures.same those) (λ those. c.in_err-open-2.ensures.same those)
     (λ asked is. c.in_err-open-2.ensures.stays asked is)
@@ -31,17 +33,19 @@ invariant_of-self-in_err-open-2 c =
 
 pub invariant_of-self-in_err-insert : goal.invariant_of-self-in_err-insert
 invariant_of-self-in_err-insert c =
+    let settled = c.open-2 in
+    let queue = c.reserve-2 in
     let b = c.self.inside in
     subst
-    (λ es. IsBook es c.insert.new.self c.open.new.self c.open-2.new.self c.reserve-2.new.self.items
-    (deque_capacity c.reserve-2.new.self) b.next_seq b.settled_seq b.settled_entries b.next_purge)
+    (λ es. IsBook es c.insert.new.self c.open.new.self settled.new.self queue.new.self.items
+    (deque_capacity queue.new.self) b.next_seq b.settled_seq b.settled_entries b.next_purge)
     (sym c.in_ok-reserve.ensures.items)
     (subst
-    (λ us. IsBook b.entries.items c.insert.new.self c.open.new.self c.open-2.new.self us
-    (deque_capacity c.reserve-2.new.self) b.next_seq b.settled_seq b.settled_entries b.next_purge)
+    (λ us. IsBook b.entries.items c.insert.new.self c.open.new.self settled.new.self us
+    (deque_capacity queue.new.self) b.next_seq b.settled_seq b.settled_entries b.next_purge)
     (sym c.in_ok-reserve-2.ensures.items)
-    (book-same b.index c.insert.new.self b.tally c.open.new.self b.settled_tally c.open-2.new.self b.entries.items
-    b.unsettled.items (deque_capacity b.unsettled) (deque_capacity c.reserve-2.new.self) b.next_seq b.settled_seq
+    (book-same b.index c.insert.new.self b.tally c.open.new.self b.settled_tally settled.new.self b.entries.items
+    b.unsettled.items (deque_capacity b.unsettled) (deque_capacity queue.new.self) b.next_seq b.settled_seq
     b.settled_entries b.next_purge c.self.invariant
     (λ name id. c.in_err-insert.ensures.unchanged name id)
     (λ those. c.in_ok-open.ensures.same those) (λ those. c.in_ok-open-2.ensures.same those)
@@ -61,21 +65,23 @@ add-requires-clause-room c = λ those among.
 
 pub invariant_of-self-2 : goal.invariant_of-self-2
 invariant_of-self-2 c =
+    let settled = c.open-2 in
+    let queue = c.reserve-2 in
     let a = c.args in
     let b = c.self.inside in
     let event : c.new-event.result ≡ new_entry a.seq a.name a.id a.body a.at = c.new-event.ensures
     ∙ (λ i. new_entry a.seq (c.in_ok-name.ensures i) (c.in_ok-id.ensures i) a.body a.at) in
     subst
-    (λ es. IsBook es c.insert.new.self c.add.new.self c.open-2.new.self c.reserve-2.new.self.items
-    (deque_capacity c.reserve-2.new.self) (a.seq + 1) b.settled_seq b.settled_entries b.next_purge)
+    (λ es. IsBook es c.insert.new.self c.add.new.self settled.new.self queue.new.self.items
+    (deque_capacity queue.new.self) (a.seq + 1) b.settled_seq b.settled_entries b.next_purge)
     (sym (c.push_reserved.ensures.items ∙ (λ i. c.in_ok-reserve.ensures.items i ++ event i ∷ [])))
     (subst
     (λ us. IsBook (b.entries.items ++ new_entry a.seq a.name a.id a.body a.at ∷ []) c.insert.new.self c.add.new.self
-    c.open-2.new.self us (deque_capacity c.reserve-2.new.self) (a.seq + 1) b.settled_seq b.settled_entries
+    settled.new.self us (deque_capacity queue.new.self) (a.seq + 1) b.settled_seq b.settled_entries
     b.next_purge)
     (sym c.in_ok-reserve-2.ensures.items)
-    (book-push b.index c.insert.new.self b.tally c.add.new.self b.settled_tally c.open-2.new.self b.entries.items
-    b.unsettled.items (deque_capacity b.unsettled) (deque_capacity c.reserve-2.new.self) b.next_seq b.settled_seq
+    (book-push b.index c.insert.new.self b.tally c.add.new.self b.settled_tally settled.new.self b.entries.items
+    b.unsettled.items (deque_capacity b.unsettled) (deque_capacity queue.new.self) b.next_seq b.settled_seq
     b.settled_entries a.seq b.next_purge a.name a.id a.body a.at c.self.invariant
     (omega (arith, c.requires.above, ap (λ v. v.next_seq) c.self.view_is))
     (unmapped _ (ap (λ v. known_in v a.name a.id) c.self.view_is ∙ c.requires.unknown))
@@ -84,7 +90,7 @@ invariant_of-self-2 c =
     (λ those asked. c.add.ensures.more those asked
     ∙ (λ i. in_state asked (c.in_ok-open.ensures.same those i) + one_of (event i).name Pending those asked))
     (λ those. c.in_ok-open-2.ensures.same those)
-    (subst (λ (e : Entry). has_room c.open-2.new.self e.name ≡ true) event c.in_ok-open-2.ensures.opened)
+    (subst (λ (e : Entry). has_room settled.new.self e.name ≡ true) event c.in_ok-open-2.ensures.opened)
     (λ asked is. c.in_ok-open-2.ensures.stays asked is)
     (omega (
       arith,

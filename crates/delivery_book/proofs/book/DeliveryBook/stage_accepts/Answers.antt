@@ -47,34 +47,38 @@ add_settled-requires-clause-room c = λ those asked.
 
 pub invariant_of-self-in_err-open_all-2 : goal.invariant_of-self-in_err-open_all-2
 invariant_of-self-in_err-open_all-2 c =
+    let settled = c.open_all-2 in
+    let queue = c.reserve-2 in
     let b = c.self.inside in
     subst
-    (λ es. IsBook es b.index c.open_all.new.self c.open_all-2.new.self c.reserve-2.new.self.items
-    (deque_capacity c.reserve-2.new.self) b.next_seq b.settled_seq b.settled_entries b.next_purge)
+    (λ es. IsBook es b.index c.open_all.new.self settled.new.self queue.new.self.items
+    (deque_capacity queue.new.self) b.next_seq b.settled_seq b.settled_entries b.next_purge)
     (sym c.in_ok-reserve.ensures.items)
     (subst
-    (λ us. IsBook b.entries.items b.index c.open_all.new.self c.open_all-2.new.self us
-    (deque_capacity c.reserve-2.new.self) b.next_seq b.settled_seq b.settled_entries b.next_purge)
+    (λ us. IsBook b.entries.items b.index c.open_all.new.self settled.new.self us
+    (deque_capacity queue.new.self) b.next_seq b.settled_seq b.settled_entries b.next_purge)
     (sym c.in_ok-reserve-2.ensures.items)
-    (book-same b.index b.index b.tally c.open_all.new.self b.settled_tally c.open_all-2.new.self b.entries.items
-    b.unsettled.items (deque_capacity b.unsettled) (deque_capacity c.reserve-2.new.self) b.next_seq b.settled_seq
+    (book-same b.index b.index b.tally c.open_all.new.self b.settled_tally settled.new.self b.entries.items
+    b.unsettled.items (deque_capacity b.unsettled) (deque_capacity queue.new.self) b.next_seq b.settled_seq
     b.settled_entries b.next_purge c.self.invariant (λ name id. refl) (λ those. c.in_ok-open_all.ensures.same those)
     (λ those. c.in_err-open_all-2.ensures.same those) (λ asked is. c.in_err-open_all-2.ensures.stays asked is)
     (omega (arith, c.self.invariant.queue.room, c.in_ok-reserve-2.ensures.capacity))))
 
 pub invariant_of-self-in_err-add_events : goal.invariant_of-self-in_err-add_events
 invariant_of-self-in_err-add_events c =
+    let settled = c.open_all-2 in
+    let queue = c.reserve-2 in
     let b = c.self.inside in
     subst
-    (λ es. IsBook es c.add_events.new.index c.open_all.new.self c.open_all-2.new.self c.reserve-2.new.self.items
-    (deque_capacity c.reserve-2.new.self) b.next_seq b.settled_seq b.settled_entries b.next_purge)
+    (λ es. IsBook es c.add_events.new.index c.open_all.new.self settled.new.self queue.new.self.items
+    (deque_capacity queue.new.self) b.next_seq b.settled_seq b.settled_entries b.next_purge)
     (sym c.in_ok-reserve.ensures.items)
     (subst
-    (λ us. IsBook b.entries.items c.add_events.new.index c.open_all.new.self c.open_all-2.new.self us
-    (deque_capacity c.reserve-2.new.self) b.next_seq b.settled_seq b.settled_entries b.next_purge)
+    (λ us. IsBook b.entries.items c.add_events.new.index c.open_all.new.self settled.new.self us
+    (deque_capacity queue.new.self) b.next_seq b.settled_seq b.settled_entries b.next_purge)
     (sym c.in_ok-reserve-2.ensures.items)
-    (book-same b.index c.add_events.new.index b.tally c.open_all.new.self b.settled_tally c.open_all-2.new.self
-    b.entries.items b.unsettled.items (deque_capacity b.unsettled) (deque_capacity c.reserve-2.new.self) b.next_seq
+    (book-same b.index c.add_events.new.index b.tally c.open_all.new.self b.settled_tally settled.new.self
+    b.entries.items b.unsettled.items (deque_capacity b.unsettled) (deque_capacity queue.new.self) b.next_seq
     b.settled_seq b.settled_entries b.next_purge c.self.invariant (λ k. c.in_err-add_events.ensures.unchanged k)
     (λ those. c.in_ok-open_all.ensures.same those) (λ those. c.in_ok-open_all-2.ensures.same those)
     (λ asked is. c.in_ok-open_all-2.ensures.stays asked is)
@@ -82,6 +86,8 @@ invariant_of-self-in_err-add_events c =
 
 pub invariant_of-self-2 : goal.invariant_of-self-2
 invariant_of-self-2 c =
+    let settled = c.open_all-2 in
+    let queue = c.reserve-2 in
     let a = c.args in
     let b = c.self.inside in
     let more = events_from a.seq (accepts a.names.now a.id a.body.now a.at) in
@@ -89,22 +95,22 @@ invariant_of-self-2 c =
     let count : c.len-count.result ≡ length more =
     c.len-count.ensures ∙ sym c.deref.ensures.len ∙ ap length (c.deref.ensures.value ∙ made) in
     subst
-    (λ es. IsBook es c.add_events.new.index c.add_settled.new.tally c.open_all-2.new.self c.reserve-2.new.self.items
-    (deque_capacity c.reserve-2.new.self) (a.seq + c.len-count.result) b.settled_seq b.settled_entries b.next_purge)
+    (λ es. IsBook es c.add_events.new.index c.add_settled.new.tally settled.new.self queue.new.self.items
+    (deque_capacity queue.new.self) (a.seq + c.len-count.result) b.settled_seq b.settled_entries b.next_purge)
     (sym (taken_in b.entries.items c.reserve.new.self.items c.in_ok-events.events.items more c.append.new.self.items
     (is_ok c.append.result) c.append.ensures.items
     (c.append.ensures.succeeds (omega (arith, c.in_ok-reserve.ensures.ok, c.len-count.ensures)))
     c.in_ok-reserve.ensures.items made))
     (subst
-    (λ us. IsBook (b.entries.items ++ more) c.add_events.new.index c.add_settled.new.tally c.open_all-2.new.self us
-    (deque_capacity c.reserve-2.new.self) (a.seq + c.len-count.result) b.settled_seq b.settled_entries b.next_purge)
+    (λ us. IsBook (b.entries.items ++ more) c.add_events.new.index c.add_settled.new.tally settled.new.self us
+    (deque_capacity queue.new.self) (a.seq + c.len-count.result) b.settled_seq b.settled_entries b.next_purge)
     (sym c.in_ok-reserve-2.ensures.items)
     (subst
-    (λ n. IsBook (b.entries.items ++ more) c.add_events.new.index c.add_settled.new.tally c.open_all-2.new.self
-    b.unsettled.items (deque_capacity c.reserve-2.new.self) (a.seq + n) b.settled_seq b.settled_entries b.next_purge)
+    (λ n. IsBook (b.entries.items ++ more) c.add_events.new.index c.add_settled.new.tally settled.new.self
+    b.unsettled.items (deque_capacity queue.new.self) (a.seq + n) b.settled_seq b.settled_entries b.next_purge)
     (sym count)
-    (book-append b.index c.add_events.new.index b.tally c.add_settled.new.tally b.settled_tally c.open_all-2.new.self
-    b.entries.items more b.unsettled.items (deque_capacity b.unsettled) (deque_capacity c.reserve-2.new.self) b.next_seq
+    (book-append b.index c.add_events.new.index b.tally c.add_settled.new.tally b.settled_tally settled.new.self
+    b.entries.items more b.unsettled.items (deque_capacity b.unsettled) (deque_capacity queue.new.self) b.next_seq
     b.settled_seq b.settled_entries a.seq b.next_purge c.self.invariant
     (omega (arith, c.requires.above, ap (λ v. v.next_seq) c.self.view_is))
     (made_from a.id a.body.now a.at a.seq a.names.now)
@@ -117,7 +123,7 @@ invariant_of-self-2 c =
     ∙ (λ t. in_state asked (c.in_ok-open_all.ensures.same those t)
     + settled_among ((c.deref-4.ensures.value ∙ made) t) those asked))
     (λ those. c.in_ok-open_all-2.ensures.same those)
-    (subst (HasRoomForAll c.open_all-2.new.self) (c.deref-2.ensures.value ∙ made) c.in_ok-open_all-2.ensures.opened)
+    (subst (HasRoomForAll settled.new.self) (c.deref-2.ensures.value ∙ made) c.in_ok-open_all-2.ensures.opened)
     (λ asked is. c.in_ok-open_all-2.ensures.stays asked is)
     (omega (
       arith,

@@ -12,15 +12,16 @@ use Rattle.endpoint_book.proofs.book.EndpointBook.stage_put.Goals as goal
 
 pub invariant_of-self-in_err-put : goal.invariant_of-self-in_err-put
 invariant_of-self-in_err-put c =
+    let changes = c.reserve-2 in
     let b = c.self.inside in
-    let room = vec_capacity c.reserve-2.new.self in
-    subst (λ ns. IsBook c.put.new.self ns c.reserve-2.new.self.items b.flags b.puts room b.next_seq b.settled_seq)
+    let room = vec_capacity changes.new.self in
+    subst (λ ns. IsBook c.put.new.self ns changes.new.self.items b.flags b.puts room b.next_seq b.settled_seq)
     (sym c.reserve.ensures.items)
     (subst (λ cs. IsBook c.put.new.self b.names.items cs b.flags b.puts room b.next_seq b.settled_seq)
-    (sym c.reserve-2.ensures.items)
+    (sym changes.ensures.items)
     (book-same b.entries c.put.new.self b.names.items b.changes.items b.flags b.puts (vec_capacity b.changes) b.next_seq
     b.settled_seq room c.self.invariant (λ asked. c.in_err-put.ensures.unchanged asked)
-    c.reserve-2.ensures.capacity))
+    changes.ensures.capacity))
 
 pub returns-in_err-put-clause-unchanged : goal.returns-in_err-put-clause-unchanged
 returns-in_err-put-clause-unchanged c =
@@ -38,9 +39,11 @@ returns-in_err-put-clause-unchanged c =
 
 pub invariant_of-self-2 : goal.invariant_of-self-2
 invariant_of-self-2 c =
+    let pushed = c.push_reserved-2 in
+    let changes = c.reserve-2 in
     let b = c.self.inside in
     let a = c.args in
-    let room = vec_capacity c.push_reserved-2.new.self in
+    let room = vec_capacity pushed.new.self in
     let e : Entry = record {
       put = a.seq;
       name = a.name;
@@ -53,13 +56,13 @@ invariant_of-self-2 c =
     } in
     let there = entry-value a.self.now b.entries b.names.items b.topics b.changes.items b.next_seq b.settled_seq a.name
     c.self.invariant.are_names c.self.view_is in
-    subst (λ ns. IsBook c.put.new.self ns c.push_reserved-2.new.self.items b.flags (b.puts + 1) room
+    subst (λ ns. IsBook c.put.new.self ns pushed.new.self.items b.flags (b.puts + 1) room
     (a.seq + 1) b.settled_seq)
     (sym (c.push_reserved.ensures.items ∙ ap (λ ns. ns ++ a.name ∷ []) c.reserve.ensures.items))
     (subst (λ cs. IsBook c.put.new.self (b.names.items ++ a.name ∷ []) cs b.flags (b.puts + 1) room
     (a.seq + 1) b.settled_seq)
-    (sym (c.push_reserved-2.ensures.items
-    ∙ λ i. c.reserve-2.ensures.items i ++ record {
+    (sym (pushed.ensures.items
+    ∙ λ i. changes.ensures.items i ++ record {
       seq = a.seq;
       name = a.name;
       kind = Put;
@@ -73,9 +76,9 @@ invariant_of-self-2 c =
     (omega (
       arith,
       c.in_ok-reserve-2.ensures.ok,
-      c.push_reserved-2.ensures.capacity,
+      pushed.ensures.capacity,
       ap length
-          c.reserve-2.ensures.items,
+          changes.ensures.items,
     )) refl))
 
 pub returns-clause-put : goal.returns-clause-put
