@@ -1,9 +1,9 @@
 //! What an audit finds of a desk and a store.
-ghost use Rattle.std.specs.Prelude.{◌≡◌};
+ghost use Rattle.std.specs.Prelude.{◌≡◌, IsTrue};
 ghost use Rattle.desk.specs.Desks.{HasNothingOut};
 
 use crate::calls::{Call, Path, check_replies, events_of};
-use crate::doubts::{Failing, opened};
+use crate::files::{fused, opened};
 use crate::paths::PUT;
 use crate::runs::{MARK, begun, in_memory};
 use desk::Desk;
@@ -12,7 +12,8 @@ use permits::PARTS;
 use recovery::{AuditFault, audit, create};
 use relay_types::{Name, Record, Step};
 use spool::{Batch, CommitEnd, Vault};
-use sqlite::{Alter, Connection, MemStore};
+use sqlite::{Alter, Connection, FileStore, Files, MemStore};
+use sqlite_disk::{Disk, Fuse, Memory};
 use std::alloc::Global;
 use std::marker::Brand;
 use std::process::Abort;
@@ -333,29 +334,32 @@ fn closes<L: Ledger, S: Alter + Drop>(
     }
 }
 
-fn closes_in<L: Ledger, S: Alter + Drop>(
+fn closes_in<L: Ledger, D: Disk + Drop>(
     rt: &impl Abort,
     alloc: Global,
     blank: Blank,
-    conn: Connection<S>,
+    files: Files<D>,
     events: &[Event],
 ) -> bool
     requires name { blank.name ≡ L.name }
     requires parts { blank.parts ≡ L.parts }
     requires enough { blank.parts ≡ PARTS }
+    requires log { IsTrue (D.Disk.is_usable files.log) }
+    requires db { IsTrue (D.Disk.is_usable files.db) }
 {
+    let Some(conn) = opened(alloc, files) else {
+        return false;
+    };
     assert!(rt; conn.is_autocommit());
-    match create::<L, S>(alloc, blank, conn, MARK) {
+    match create::<L, FileStore<D>>(alloc, blank, conn, MARK) {
         Ok((desk, vault)) => closes(rt, alloc, desk, vault, events),
         Err((_, _)) => false,
     }
 }
 
 fn closes_after(rt: &impl Abort, alloc: Global, events: &[Event], calls: u64) -> bool {
-    match opened(alloc, calls) {
-        Some(conn) => closes_in::<Brand, Failing>(rt, alloc, Blank::new(PARTS), conn, events),
-        None => false,
-    }
+    let files = fused(alloc, calls, u64::MAX);
+    closes_in::<Brand, Fuse<Memory>>(rt, alloc, Blank::new(PARTS), files, events)
 }
 
 static SETTLED_ALONE: [Path; 1] = [&SETTLED];

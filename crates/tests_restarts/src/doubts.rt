@@ -1,31 +1,21 @@
 //! A store that stops taking writes: which call of its log fails first is tried in turn, up to the last one of a
 //! commit.
-ghost use Rattle.std.specs.Prelude.{◌≡◌};
+ghost use Rattle.std.specs.Prelude.{◌≡◌, IsTrue};
 
 use crate::calls::{Call, Path, check_replies, events_of, is_line_at};
+use crate::files::{fused, opened};
 use crate::paths::{MEANWHILE, SEALED};
 use crate::runs::{MARK, begun};
 use drill::{Event, Reply};
 use permits::PARTS;
 use relay_types::{Name, Record, Step};
 use spool::{Batch, CommitEnd, Unchanged, Vault};
-use sqlite::{Alter, Connection, FileStore, Files, Options};
-use sqlite_disk::{Fuse, Memory};
+use sqlite::{Alter, FileStore, Files};
+use sqlite_disk::{Disk, Fuse, Memory};
 use std::alloc::Global;
 use std::marker::Brand;
 use std::process::Abort;
 use std::sync::ledger::{Blank, Ledger};
-
-pub(crate) type Failing = FileStore<Fuse<Memory>>;
-
-/// A store whose log takes so many calls.
-pub(crate) fn opened(alloc: Global, calls: u64) -> Option<Connection<Failing>> {
-    let files = Files {
-        log: Fuse::new(Memory::new(alloc), calls),
-        db: Fuse::new(Memory::new(alloc), u64::MAX),
-    };
-    Connection::open_files(alloc, files, Options::new(7)).ok()
-}
 
 const DOUBTFUL: [Call; 1] = [Call::Line("commit", "refused 5 Store")];
 
@@ -118,18 +108,23 @@ fn check_end<S: Alter>(
     end
 }
 
-fn end_of<L: Ledger, S: Alter + Drop>(
+fn end_of<L: Ledger, D: Disk + Drop>(
     rt: &impl Abort,
     alloc: Global,
     blank: Blank,
-    conn: Connection<S>,
+    files: Files<D>,
     events: &[Event],
 ) -> End
     requires name { blank.name ≡ L.name }
     requires parts { blank.parts ≡ L.parts }
     requires enough { blank.parts ≡ PARTS }
+    requires log { IsTrue (D.Disk.is_usable files.log) }
+    requires db { IsTrue (D.Disk.is_usable files.db) }
 {
-    match begun::<L, S>(rt, alloc, blank, conn, events) {
+    let Some(conn) = opened(alloc, files) else {
+        return End::Early;
+    };
+    match begun::<L, FileStore<D>>(rt, alloc, blank, conn, events) {
         Some((_pool, vault, replies)) => {
             let mut vault = vault;
             check_end(rt, alloc, &mut vault, &replies)
@@ -139,10 +134,8 @@ fn end_of<L: Ledger, S: Alter + Drop>(
 }
 
 fn end_after(rt: &impl Abort, alloc: Global, events: &[Event], calls: u64) -> End {
-    match opened(alloc, calls) {
-        Some(conn) => end_of::<Brand, Failing>(rt, alloc, Blank::new(PARTS), conn, events),
-        None => End::Early,
-    }
+    let files = fused(alloc, calls, u64::MAX);
+    end_of::<Brand, Fuse<Memory>>(rt, alloc, Blank::new(PARTS), files, events)
 }
 
 #[test]

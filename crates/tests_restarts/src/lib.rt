@@ -10,6 +10,8 @@ mod calls;
 #[cfg(test)]
 mod doubts;
 #[cfg(test)]
+mod files;
+#[cfg(test)]
 mod migrations;
 #[cfg(test)]
 mod paths;

@@ -1,17 +1,17 @@
 //! A machine crashes while a store of version 1 is opened: at a call of the store's log, each call
 //! in turn. The same records and pages are there when it comes back. A migration makes no call of
 //! the database file.
-ghost use Rattle.std.specs.Prelude.{◌≡◌};
+ghost use Rattle.std.specs.Prelude.{◌≡◌, IsTrue};
 
 use crate::calls::{Call, Path, check_replies, events_of};
+use crate::files::{come_back, crashed, opened};
 use crate::runs::{MARK, closed};
-use crate::stops::{Failing, come_back};
 use drill::Reply;
 use permits::{PARTS, Pool};
 use recovery::reopen;
 use spool::OpenFault;
-use sqlite::{Alter, Connection, Files, Options};
-use sqlite_disk::{Crash, Fuse, Memory};
+use sqlite::{Alter, Connection, FileStore, Files};
+use sqlite_disk::{Crash, Disk, Fuse, Memory};
 use std::alloc::Global;
 use std::marker::Brand;
 use std::process::Abort;
@@ -60,28 +60,31 @@ fn filled<S: Alter + Drop>(rt: &impl Abort, conn: Connection<S>) -> S {
     conn.into_store()
 }
 
-/// The files of a store of version 1.
-fn first_files(rt: &impl Abort, alloc: Global) -> Files<Memory> {
+/// The files of a store of version 1, made in these.
+fn first_files<D: Disk + Drop>(rt: &impl Abort, alloc: Global, files: Files<D>) -> Files<D>
+    requires log { IsTrue (D.Disk.is_usable files.log) }
+    requires db { IsTrue (D.Disk.is_usable files.db) }
+{
+    match opened(alloc, files) {
+        Some(conn) => filled(rt, conn).close(),
+        None => panic!(rt; "no store"),
+    }
+}
+
+/// The files of a store of version 1 after a crash. The log takes so many calls.
+fn fused_files(rt: &impl Abort, alloc: Global, calls: u64) -> Files<Fuse<Memory>>
+    ensures log { IsTrue (⟦<Fuse<Memory> as Disk>⟧.is_usable result.log) }
+    ensures db { IsTrue (⟦<Fuse<Memory> as Disk>⟧.is_usable result.db) }
+{
     let files = Files {
         log: Memory::new(alloc),
         db: Memory::new(alloc),
     };
-    match Connection::open_files(alloc, files, Options::new(7)) {
-        Ok(conn) => filled(rt, conn).close(),
-        Err((_, _)) => panic!(rt; "no store"),
-    }
-}
-
-/// The store in these files after a crash. Its log takes so many calls.
-fn opened(alloc: Global, files: Files<Memory>, calls: u64) -> Option<Connection<Failing>> {
-    let Files { mut log, mut db } = files;
-    log.crash();
-    db.crash();
-    let files = Files {
+    let Files { log, db } = crashed(first_files(rt, alloc, files));
+    Files {
         log: Fuse::new(log, calls),
         db: Fuse::new(db, u64::MAX),
-    };
-    Connection::open_files(alloc, files, Options::new(7)).ok()
+    }
 }
 
 /// The version of a store's tables.
@@ -159,12 +162,14 @@ enum End {
     Opened,
 }
 
-fn end_at(rt: &impl Abort, alloc: Global, calls: u64) -> End {
-    let files = first_files(rt, alloc);
-    let Some(conn) = opened(alloc, files, calls) else {
+fn end_in<D: Crash + Drop>(rt: &impl Abort, alloc: Global, files: Files<D>) -> End
+    requires log { IsTrue (D.Disk.is_usable files.log) }
+    requires db { IsTrue (D.Disk.is_usable files.db) }
+{
+    let Some(conn) = opened(alloc, files) else {
         return End::Unopened;
     };
-    let (conn, is_opened) = tried::<Brand, Failing>(rt, alloc, Blank::new(PARTS), conn);
+    let (conn, is_opened) = tried::<Brand, FileStore<D>>(rt, alloc, Blank::new(PARTS), conn);
     let left = check_left(rt, alloc, come_back(rt, alloc, conn));
     if is_opened {
         assert!(rt; left == 2, "version {left}");
@@ -177,7 +182,7 @@ fn end_at(rt: &impl Abort, alloc: Global, calls: u64) -> End {
 fn stop_each(rt: &impl Abort, alloc: Global) -> u64 {
     let mut count = 0u64;
     for calls in 0..10_000 {
-        match end_at(rt, alloc, calls) {
+        match end_in(rt, alloc, fused_files(rt, alloc, calls)) {
             End::Unopened => {}
             End::Stopped => count = count.saturating_add(1),
             End::Opened => return count,

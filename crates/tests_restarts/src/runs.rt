@@ -106,7 +106,7 @@ fn told<L: Ledger>(
     blank: Blank,
     first: &[Event],
     then: &[Event],
-) -> [Vec<Reply>; 2]
+) -> (Vec<Reply>, Vec<Reply>)
     requires name { blank.name ≡ L.name }
     requires parts { blank.parts ≡ L.parts }
     requires enough { blank.parts ≡ PARTS }
@@ -115,7 +115,7 @@ fn told<L: Ledger>(
     match begun::<L, MemStore>(rt, alloc, blank, conn, first) {
         Some((pool, vault, before)) => {
             let conn = again(rt, alloc, vault.release());
-            [before, gone_on(rt, alloc, pool, conn, then)]
+            (before, gone_on(rt, alloc, pool, conn, then))
         }
         None => panic!(rt; "create was refused"),
     }
@@ -124,7 +124,7 @@ fn told<L: Ledger>(
 /// Makes the first calls on a new store, and the others on what they leave, opened again.
 pub(crate) fn check(rt: &impl Abort, alloc: Global, first: &[Path], then: &[Path]) {
     let (events, later) = (events_of(rt, alloc, first), events_of(rt, alloc, then));
-    let [before, after] = told::<Brand>(rt, alloc, Blank::new(PARTS), &events, &later);
+    let (before, after) = told::<Brand>(rt, alloc, Blank::new(PARTS), &events, &later);
     check_replies(rt, alloc, &before, first);
     check_replies(rt, alloc, &after, then);
 }

@@ -1,20 +1,19 @@
 //! A machine that stops at a call of one of the store's two files, each call in turn: what is there when it comes back.
-ghost use Rattle.std.specs.Prelude.{◌≡◌, [], IfSome};
+ghost use Rattle.std.specs.Prelude.{◌≡◌, [], IfSome, IsTrue};
 
 use crate::calls::{Call, Path, events_of, is_line_at};
+use crate::files::{come_back, fused, opened};
 use crate::paths::{PUT, PUT_OTHER};
 use crate::runs::{MARK, begun, closed};
 use drill::{Event, Reply};
 use permits::{PARTS, Pool};
 use recovery::reopen;
-use sqlite::{Alter, Connection, FileStore, Files, Options};
-use sqlite_disk::{Crash, Fuse, Memory};
+use sqlite::{Alter, Connection, FileStore, Files};
+use sqlite_disk::{Crash, Disk, Fuse, Memory};
 use std::alloc::Global;
 use std::marker::Brand;
 use std::process::Abort;
 use std::sync::ledger::{Blank, Ledger};
-
-pub(crate) type Failing = FileStore<Fuse<Memory>>;
 
 /// Two endpoints, subscribed to a topic; an event of one of them and one for both; an attempt; one that delivers; and a
 /// Purge with an event under the id that it takes, each settled before the next. The replies are those of a run that
@@ -142,30 +141,14 @@ enum Stopping {
     Database,
 }
 
-fn opened(alloc: Global, stopping: Stopping, calls: u64) -> Option<Connection<Failing>> {
-    let (log, db) = match stopping {
-        Stopping::Log => (calls, u64::MAX),
-        Stopping::Database => (u64::MAX, calls),
-    };
-    let files = Files {
-        log: Fuse::new(Memory::new(alloc), log),
-        db: Fuse::new(Memory::new(alloc), db),
-    };
-    Connection::open_files(alloc, files, Options::new(7)).ok()
-}
-
-/// The store that is there once the machine comes back.
-pub(crate) fn come_back(
-    rt: &impl Abort,
-    alloc: Global,
-    conn: Connection<Failing>,
-) -> Connection<Failing> {
-    let mut files = conn.into_store().close();
-    files.log.crash();
-    files.db.crash();
-    match Connection::open_files(alloc, files, Options::new(7)) {
-        Ok(conn) => conn,
-        Err((_, _)) => panic!(rt; "the store was not opened again"),
+/// New files, of which this one takes so many calls.
+fn stopping_files(alloc: Global, stopping: Stopping, calls: u64) -> Files<Fuse<Memory>>
+    ensures log { IsTrue (⟦<Fuse<Memory> as Disk>⟧.is_usable result.log) }
+    ensures db { IsTrue (⟦<Fuse<Memory> as Disk>⟧.is_usable result.db) }
+{
+    match stopping {
+        Stopping::Log => fused(alloc, calls, u64::MAX),
+        Stopping::Database => fused(alloc, u64::MAX, calls),
     }
 }
 
@@ -246,18 +229,23 @@ fn check_records(rt: &impl Abort, records: u64, (settled, sealed): (u64, u64)) {
 }
 
 /// Whether the machine stopped before the end of the run.
-fn stops<L: Ledger>(
+fn stops<L: Ledger, D: Crash + Drop>(
     rt: &impl Abort,
     alloc: Global,
     blank: Blank,
-    conn: Connection<Failing>,
+    files: Files<D>,
     events: &[Event],
 ) -> bool
     requires name { blank.name ≡ L.name }
     requires parts { blank.parts ≡ L.parts }
     requires enough { blank.parts ≡ PARTS }
+    requires log { IsTrue (D.Disk.is_usable files.log) }
+    requires db { IsTrue (D.Disk.is_usable files.db) }
 {
-    match left::<L, Failing>(rt, alloc, blank, conn, events) {
+    let Some(conn) = opened(alloc, files) else {
+        return true;
+    };
+    match left::<L, FileStore<D>>(rt, alloc, blank, conn, events) {
         Some((pool, conn, told)) => {
             let records = records_of(rt, alloc, pool, come_back(rt, alloc, conn));
             check_records(rt, records, told);
@@ -273,10 +261,8 @@ fn stops_at(
     events: &[Event],
     (stopping, calls): (Stopping, u64),
 ) -> bool {
-    match opened(alloc, stopping, calls) {
-        Some(conn) => stops::<Brand>(rt, alloc, Blank::new(PARTS), conn, events),
-        None => true,
-    }
+    let files = stopping_files(alloc, stopping, calls);
+    stops::<Brand, Fuse<Memory>>(rt, alloc, Blank::new(PARTS), files, events)
 }
 
 /// How many calls of the file a run has, up to which one of them fails in turn.
