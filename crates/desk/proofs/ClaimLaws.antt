@@ -14,7 +14,7 @@ use Rattle.desk.proofs.Words.{attempts_of, deliveries, due_after, due_of, failur
 use Rattle.desk.proofs.Words.{endpoint_of, has_endpoint, AllKnown, below_if_accepted, legal_known, entry_for, state_by}
 use Rattle.desk.proofs.Words.{is_delivered_among, failed_among, NothingIsReady, is_ready, World, all_records}
 use Rattle.desk.proofs.Words.{settled_records, waiting_records, choice, claimables, has_place_in, has_room}
-use Rattle.desk.proofs.Words.{is_claimable, is_live, least_by, limit_in, samples_of, waits, AreMarked, StandsBy}
+use Rattle.desk.proofs.Words.{is_claimable, is_live, least_by, limit_in, samples_of, waits, KnowsRooms, StandsBy}
 use Rattle.desk.proofs.Words.{waits_as, StandsFor, max, inl, Result, Ok, Err, IfOk, OnErr, Refusal, Faults, refusal}
 use Rattle.desk.proofs.Words.{first_fault, out_of_memory_at, Answer, are_seqs_spent, moment, JobValue, claim}
 use Rattle.desk.proofs.Words.{claim_chosen, rests, starts, Checks, IsMove, OverWorlds, Starts, due_if_pending, state_of}
@@ -49,7 +49,7 @@ pub may_start_next : {d e : DeskValue} {queue : QueueValue} (now : ℕ) (name : 
     → may_start e s ≡ true
 may_start_next {d} {queue = queue} now name s same tied place next =
     let held = tied.queued.held (pair_of name next.due s) in
-    let room = tied.marked.rooms name in
+    let room = tied.lanes.rooms name in
     let ready = next.ready in
     ap (λ (x : DeskValue). may_start x s) (sym same) ∙ by_option (entry_at d.deliveries.entries s)
     (λ e. absurd (grind (arith, held, ready, e)))
@@ -440,10 +440,10 @@ endpoint_there {d} {w} s a h e = accepted_known (all_records w) (all_records w) 
     (legal_known (all_records w) h.books.legal) (accepted_settled w s a e).1
 
 pub room_is : {d : DeskValue} {w : World} {queue : QueueValue} (name : List ℕ) → StandsFor d w
-    → AreLimiters d.limiters d.endpoints → AreMarked queue d.endpoints d.limiters d.live
+    → AreLimiters d.limiters d.endpoints → KnowsRooms queue d.endpoints d.limiters d.live
     → has_endpoint (all_records w) name ≡ true → has_room_in queue.states name ≡ has_room w name
-room_is {d} {w} {queue} name h are marked known =
-    marked.rooms name (marked.known name (known_is name h ∙ known))
+room_is {d} {w} {queue} name h are lanes known =
+    lanes.rooms name (lanes.known name (known_is name h ∙ known))
     ∙ (λ i. h.books.of_endpoints.tells.enabled name i && nat_lt (in_flight_of name (h.live i))
     (limit_is name h are known i))
 
@@ -460,7 +460,7 @@ claimable_is : {d : DeskValue} {w : World} {queue : QueueValue} (now s : ℕ) (a
 claimable_is {d} {w} {queue} now s a h tied place e =
     let pair = pair_of a.endpoint (due_of (settled_records w) s) s in
     let held = sym (waits_is s a h e) ∙ sym (tied.queued.held pair) in
-    let room = sym (room_is a.endpoint h tied.limited tied.marked (endpoint_there s a h e)) in
+    let room = sym (room_is a.endpoint h tied.limited tied.lanes (endpoint_there s a h e)) in
     let has = place_is h ∙ place in
     grind (arith, e, held, room, has)
 

@@ -10,7 +10,7 @@ use Rattle.desk.proofs.Words.{changes_none, EndpointEntry, Entry, DeliveryRow, B
 use Rattle.desk.proofs.Words.{empty_book, entry_at, is_pending_of, pending_in, settled_row, all_weaker, Row}
 use Rattle.desk.proofs.Words.{Pair, QueueValue, empty_queue, ChangesState, IsNew, SetsState, free_places, has_room_in}
 use Rattle.desk.proofs.Words.{is_held, is_reserved, pair_of, reserved_state, with_room, Limiter, IsDesk, Opens}
-use Rattle.desk.proofs.Words.{AreLimiters, AreMarked, AreQueued, HasPlaces, Holds, KeepsPlaces, StandsAt, bound_by}
+use Rattle.desk.proofs.Words.{AreLimiters, KnowsRooms, AreQueued, HasPlaces, Holds, KeepsPlaces, StandsAt, bound_by}
 use Rattle.desk.proofs.Words.{endpoint_at, idle_pair, is_unheld, new_limiter, room_by, waits_as, entry_of, nat_tests}
 use Rattle.desk.proofs.Words.{by_bool, by_option, nat_lt, option_and_then, row_if_settled}
 use Rattle.vegas.specs.Vegas.{limit_of, noload_of, probes_of}
@@ -239,7 +239,7 @@ among_known (x ∷ xs) n = grind (arith, among_known xs n)
 
 pub marked_all : (queue : QueueValue) (book : endpoint_entries.BookValue) (limiters : List Limiter)
     → AreLimiters limiters book → AreTold queue book limiters (map (λ e. e.name) book.entries)
-    → AreMarked queue book limiters []
+    → KnowsRooms queue book limiters []
 marked_all queue book limiters limited told = record {
   listed = refl;
   known = λ n h. told.known n (among_known book.entries n ∙ h);
@@ -351,9 +351,9 @@ pub is_desk_opened : (books : Books) (endpoints : endpoint_entries.BookValue) (d
     → (books.endpoints.next_seq ≡ books.endpoints.settled_seq → books.endpoints.changes ≡ [])
     → IsInStep books.deliveries → waiting ≡ none_waiting books.records mark → live ≡ []
     → limiters ≡ map (λ e. new_limiter e.name e.max) books.endpoints.entries → AreQueued queue books.deliveries []
-    → AreMarked queue books.endpoints limiters [] → IsDesk endpoints deliveries waiting live limiters queue
+    → KnowsRooms queue books.endpoints limiters [] → IsDesk endpoints deliveries waiting live limiters queue
 is_desk_opened books endpoints deliveries waiting live limiters queue mark same_endpoints same_deliveries settled
-    endpoints_step all_settled step none nobody are queued marked =
+    endpoints_step all_settled step none nobody are queued lanes =
     let same = settled.endpoints_next ∙ sym settled.endpoints_settled in
     rw (same_endpoints, same_deliveries, none, nobody) (record {
       endpoints_staged = omega (arith, settled.endpoints_next);
@@ -368,7 +368,7 @@ is_desk_opened books endpoints deliveries waiting live limiters queue mark same_
       tied = record {
         limited = limited_new limiters books.endpoints are;
         room = record { places = omega arith; numbers = omega (arith, settled.room) };
-        marked = marked;
+        lanes = lanes;
         queued = queued;
       };
     })
@@ -392,7 +392,7 @@ is_desk_new {endpoints} {deliveries} {waiting} {live} {limiters} {queue} mark no
       tied = record {
         limited = refl;
         room = record { places = omega arith; numbers = omega arith };
-        marked = record {
+        lanes = record {
           listed = refl;
           known = λ name known. absurd (let wrong = known in cc);
           rooms =

@@ -102,10 +102,10 @@ tied_places : {endpoints : endpoint_entries.BookValue} {deliveries : BookValue} 
 tied_places {endpoints} {deliveries} {waiting} {live} {limiters} {queue} {new} more h = record {
   limited = h.limited;
   room = h.room;
-  marked = record {
-    listed = h.marked.listed;
-    known = λ n k. more.reserved n (h.marked.known n k);
-    rooms = λ n there. more.rooms n ∙ room_is queue endpoints limiters live n h.limited h.marked;
+  lanes = record {
+    listed = h.lanes.listed;
+    known = λ n k. more.reserved n (h.lanes.known n k);
+    rooms = λ n there. more.rooms n ∙ room_is queue endpoints limiters live n h.limited h.lanes;
   };
   queued = queued_reserved queue new deliveries live more.pairs more.places h.queued;
 }
@@ -139,7 +139,7 @@ recut {endpoints} {deliveries} {waiting} {later} {live} {limiters} {queue} settl
           places = omega (arith, h.tied.room.places, outcomes);
           numbers = omega (arith, h.tied.room.numbers, count);
         };
-        marked = h.tied.marked;
+        lanes = h.tied.lanes;
         queued = h.tied.queued;
       };
     }

@@ -100,7 +100,7 @@ tied_purged : {endpoints : endpoint_entries.BookValue} {deliveries : BookValue} 
 tied_purged {endpoints} {deliveries} {waiting} {live} {limiters} {queue} seq before numbers above h = record {
   limited = h.limited;
   room = room_requested waiting live (Purge before) refl h.room numbers;
-  marked = h.marked;
+  lanes = h.lanes;
   queued = record {
     apart = apart_purged deliveries seq before above h.queued.apart;
     under_way = under_way_purged deliveries live seq before h.queued.under_way;

@@ -24,7 +24,7 @@ use Rattle.endpoint_book.specs.Entries as endpoint_entries
 use Rattle.desk.proofs.ClaimLaws.{found_seq, idle_from, count_below}
 use Rattle.desk.proofs.DeskLaws.{deliveries_wait}
 use Rattle.desk.proofs.TakenLaws.{count_left, entry_left, if_passes, left_on, open_left}
-use Rattle.desk.proofs.RequestTies.{room_requested, by_name, found_with, marked_reserved, places_reserved}
+use Rattle.desk.proofs.RequestTies.{room_requested, by_name, found_with, lanes_reserved, places_reserved}
 use Rattle.desk.proofs.RequestTies.{reserved_free}
 
 -- whether this is the delivery that is named
@@ -716,8 +716,8 @@ tied_accept {endpoints} {deliveries} {waiting} {live} {limiters} {queue} {new} s
     behind same sets h = record {
       limited = h.limited;
       room = room_requested waiting live (Accept name id body at) refl h.room numbers;
-      marked = marked_reserved queue new endpoints limiters live name (pending_in deliveries name + 1) h.limited sets
-          h.marked;
+      lanes = lanes_reserved queue new endpoints limiters live name (pending_in deliveries name + 1) h.limited sets
+          h.lanes;
       queued = record {
         apart = apart_taken deliveries s name id kept at above h.queued.apart;
         under_way = under_way_taken deliveries live s name id kept at h.queued.under_way;

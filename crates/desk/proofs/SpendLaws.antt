@@ -17,7 +17,7 @@ use Rattle.desk.proofs.Words.{◌&&◌, remove, IfNone, IfSome, IsErr, Result, O
 use Rattle.desk.proofs.Words.{length-map, list_any, records_of, enabled_in, Change, HasChanges, changes_gone}
 use Rattle.desk.proofs.Words.{changes_other, all_weaker, QueueValue, ChangesState, IsNew, HasSamePairs, is_reserved}
 use Rattle.group_commit.proofs.StepLaws.{outcomes_snoc}
-use Rattle.desk.proofs.Words.{with_room, count_by_snoc, is_out, same_row, AreMarked, AreQueued, AreTied}
+use Rattle.desk.proofs.Words.{with_room, count_by_snoc, is_out, same_row, KnowsRooms, AreQueued, AreTied}
 use Rattle.desk.proofs.Words.{HasPlaces, HasRoomForAll, Holds, KeepsRooms, endpoint_at, idle_pair, room_by, has_row}
 use Rattle.desk.proofs.Words.{HasOutcome, IsDesk, OverWorlds, Spends, TakesOutcome, map-append, MAX_WAITING_OUTCOMES}
 use Rattle.desk.proofs.Words.{SpentValue, outcomes_in, status_of}
@@ -38,7 +38,7 @@ use Rattle.desk.proofs.ClaimLaws.{accept_left, entry_is, limit_is, limiter_entry
 use Rattle.desk.proofs.DeskLaws.{count_is, known_is, legal_with, stands_staged, one_changes, one_more, one_waits}
 use Rattle.desk.proofs.DeskLaws.{stands_as}
 use Rattle.desk.proofs.RowLaws.{others, IsReturned, attempts_at, none_found, returned, same_row_is}
-use Rattle.desk.proofs.TieLaws.{UnderWay, takes, tried, marked_told, apart_tried, held_again, held_tried}
+use Rattle.desk.proofs.TieLaws.{UnderWay, takes, tried, lanes_told, apart_tried, held_again, held_tried}
 use Rattle.desk.proofs.TieLaws.{new_pair, places_tried, under_way, under_way_less, under_way_tried, holds_rooms}
 use Rattle.desk.proofs.SettleLaws.{names_tried}
 use Rattle.desk.proofs.RequestTies.{flag_known, flag_limiters, flag_room}
@@ -402,7 +402,7 @@ is_live d queue row rest tied r = record {
   gone = r;
   entry = under_way d.deliveries row (r.passes _ tied.queued.under_way.each);
   out = out_of row d.live r.there;
-  known = r.passes (λ (x : Row). endpoint_entries.is_known d.endpoints x.endpoint) tied.marked.listed;
+  known = r.passes (λ (x : Row). endpoint_entries.is_known d.endpoints x.endpoint) tied.lanes.listed;
 }
 
 pub takes_outcome : (d : DeskValue) (queue : QueueValue) (row : Row) (rest : List Row)
@@ -493,16 +493,16 @@ pub limited_over : (d : DeskValue) (row : Row) (status : Option ℕ) (limiters :
 limited_over d row status limiters h kept = kept.same ∙ disabled_limiters d.endpoints (record_count d.waiting)
     row.endpoint status d.limiters h
 
-marked_over : (d : DeskValue) (queue held told : QueueValue) (row : Row) (rest : List Row) (status : Option ℕ)
-    (limiters : List Limiter) → AreMarked queue d.endpoints d.limiters d.live → IsLive d row rest
+lanes_over : (d : DeskValue) (queue held told : QueueValue) (row : Row) (rest : List Row) (status : Option ℕ)
+    (limiters : List Limiter) → KnowsRooms queue d.endpoints d.limiters d.live → IsLive d row rest
     → KeepsOthers d.limiters limiters row
     → KeepsRooms queue held
     → ChangesState held told row.endpoint
     (with_room (room_by (disabled d.endpoints (record_count d.waiting) row.endpoint status) limiters rest
     row.endpoint))
-    → AreMarked told (disabled d.endpoints (record_count d.waiting) row.endpoint status) limiters rest
-marked_over d queue held told row rest status limiters h is kept rooms changes =
-    marked_told held told (disabled d.endpoints (record_count d.waiting) row.endpoint status) limiters rest row.endpoint
+    → KnowsRooms told (disabled d.endpoints (record_count d.waiting) row.endpoint status) limiters rest
+lanes_over d queue held told row rest status limiters h is kept rooms changes =
+    lanes_told held told (disabled d.endpoints (record_count d.waiting) row.endpoint status) limiters rest row.endpoint
     changes
     (λ name known. rooms.reserved name
     ∙ h.known name (sym (disabled_known d.endpoints (record_count d.waiting) row.endpoint name status) ∙ known))
@@ -538,7 +538,7 @@ tied_over d queue held told row rest status at limiters h is unused kept holds p
     record {
       limited = limited_over d row status limiters h.tied.limited kept;
       room = room_over d row rest status at h.tied.room is.gone.fewer;
-      marked = marked_over d queue held told row rest status limiters h.tied.marked is kept
+      lanes = lanes_over d queue held told row rest status limiters h.tied.lanes is kept
           (holds_rooms queue held _ holds) changes;
       queued = queued_told held told _ rest row.endpoint _ same changes queued;
     }
@@ -748,7 +748,7 @@ pub reserved_left : (d m : DeskValue) (queue held : QueueValue) (row : Row) (res
     → IsReturned row d.live rest → Holds queue held (idle_pair m.deliveries row.delivery)
     → IsTrue (is_reserved held row.endpoint)
 reserved_left d m queue held row rest h r holds = (holds_rooms queue held _ holds).reserved row.endpoint
-    ∙ h.tied.marked.known row.endpoint (is_live d queue row rest h.tied r).known
+    ∙ h.tied.lanes.known row.endpoint (is_live d queue row rest h.tied r).known
 
 -- what was written over the limiters is all of them
 pub written : (n : ℕ) (old new all : List Limiter) (row : Row) (post : PostResult) → AreSampled old new row post

@@ -6,7 +6,8 @@ use Rattle.desk.proofs.Words.{eqb-true, list_any-append, sum_by_push, bytes_eq-D
 use Rattle.desk.proofs.Words.{is_in_state, and_first, and_second, and_both, enabled_in, Entry, BookValue, entry_at}
 use Rattle.desk.proofs.Words.{is_open, state_in, Row, in_flight_of, is_out, next_row, Pair, QueueValue, ChangesState}
 use Rattle.desk.proofs.Words.{HasSamePairs, has_room_in, is_held, is_reserved, pair_of, same_pair, with_room}
-use Rattle.desk.proofs.Words.{record_count, Limiter, AreHeld, AreMarked, AreTied, AreUnderWay, HasPlaces, HasRoomForAll}
+use Rattle.desk.proofs.Words.{record_count, Limiter, AreHeld, AreTied, AreUnderWay, HasPlaces, HasRoomForAll}
+use Rattle.desk.proofs.Words.{KnowsRooms}
 use Rattle.desk.proofs.Words.{LetsGo, LetsPairGo, is_idle, is_pair_of, is_under_way, limit_by, own_pair, pair_in}
 use Rattle.desk.proofs.Words.{room_by, waits_as, DeskValue, IsDesk, by_bool, Holds, KeepsRooms, map, find, nat_le}
 use Rattle.desk.proofs.Words.{le-leb, leb-true, ne_eqb, list_all-append, sum_by-cons, find_map, Unsettled, at_delivery}
@@ -29,14 +30,14 @@ holds_rooms queue new (Some pair) holds = record {
 }
 
 -- the room of one endpoint is told, and that of the others was right
-pub marked_told : (queue new : QueueValue) (book : endpoint_entries.BookValue) (limiters : List Limiter)
+pub lanes_told : (queue new : QueueValue) (book : endpoint_entries.BookValue) (limiters : List Limiter)
     (live : List Row) (name : List ℕ)
     → ChangesState queue new name (with_room (room_by book limiters live name))
     → ((n : List ℕ) → IsTrue (endpoint_entries.is_known book n) → IsTrue (is_reserved queue n))
     → ((n : List ℕ) → bytes_eq name n ≡ false → IsTrue (is_reserved queue n)
     → has_room_in queue.states n ≡ room_by book limiters live n)
-    → IsTrue (list_all (λ row. endpoint_entries.is_known book row.endpoint) live) → AreMarked new book limiters live
-marked_told queue new book limiters live name changes known others rows = record {
+    → IsTrue (list_all (λ row. endpoint_entries.is_known book row.endpoint) live) → KnowsRooms new book limiters live
+lanes_told queue new book limiters live name changes known others rows = record {
   listed = rows;
   known = λ n k. grind (arith, changes n, known n k);
   rooms = λ n there. grind (arith, changes n, others n, bytes_eq-Decides name n);
@@ -144,7 +145,7 @@ pub still_reserved : {d : DeskValue} {queue : QueueValue} (gone : QueueValue) (n
     → LetsGo queue gone (pair_in d.deliveries s) → is_reserved gone name ≡ true
 still_reserved {d} {queue} gone name s tied from lets =
     let own = lets_own queue gone name s tied.queued.held from lets in
-    let known = tied.marked.known name (endpoint_known name s tied.limited from) in
+    let known = tied.lanes.known name (endpoint_known name s tied.limited from) in
     grind (arith, own.1.state name, known)
 
 -- the desk once an attempt at the delivery is under way
@@ -157,18 +158,18 @@ pub desk_started : {d : DeskValue} {queue : QueueValue} (gone new : QueueValue) 
 desk_started {d} {queue} gone new name s live h from numbers is lets places same told =
     let known = endpoint_known name s tied.limited from in
     let listed =
-    all_more (λ (r : Row). endpoint_entries.is_known d.endpoints r.endpoint) d.live row tied.marked.listed known in
+    all_more (λ (r : Row). endpoint_entries.is_known d.endpoints r.endpoint) d.live row tied.lanes.listed known in
     let told_room =
     subst (λ rows. ChangesState gone new name (with_room (room_by d.endpoints d.limiters rows name))) is told in
     let held = held_started name s own.0 row from refl own.2 own.1 tied.queued.held in
     assumption (subst (λ rows. AreTied d.endpoints d.deliveries d.waiting rows d.limiters new) (sym is) (record {
       limited = tied.limited;
       room = room_started name s row from numbers;
-      marked = marked_told gone new d.endpoints d.limiters more name told_room
-          (λ n k. grind (arith, own.1.state n, tied.marked.known n k))
+      lanes = lanes_told gone new d.endpoints d.limiters more name told_room
+          (λ n k. grind (arith, own.1.state n, tied.lanes.known n k))
           (λ n other there.
           let as_before = same_room n other in
-          grind (arith, own.1.state n, tied.marked.rooms n, there, as_before)) listed;
+          grind (arith, own.1.state n, tied.lanes.rooms n, there, as_before)) listed;
       queued = record {
         apart = tied.queued.apart;
         under_way = under_way_started name s row from refl refl tied.queued.under_way;

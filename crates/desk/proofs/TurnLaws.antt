@@ -13,7 +13,7 @@ use Rattle.group_commit.specs.Steps.{fitting}
 use Rattle.group_commit.proofs.StepLaws.{fitting_within, outcomes_both}
 use Rattle.spool.specs.declared.limits.TheConstants.{MAX_BATCH_RECORDS}
 use Rattle.desk.proofs.Words.{seal_waiting, with_batch, with_sealed_settled, with_batch_back, with_halt, Row}
-use Rattle.desk.proofs.Words.{QueueValue, Limiter, AreMarked, AreQueued, KeepsRooms, bound_of, endpoint_at, room_by}
+use Rattle.desk.proofs.Words.{QueueValue, Limiter, KnowsRooms, AreQueued, KeepsRooms, bound_of, endpoint_at, room_by}
 use Rattle.desk.proofs.Words.{DeskValue, IsDesk, StandsFor, IsReceiptOf, ArePlacesOf, IsHeldOf, OverWorlds, Turns}
 use Rattle.desk.proofs.Words.{IsMove, by_option, changes_named, HasSameNames}
 use Rattle.desk.proofs.SettleLaws.{named_left, none_tried}
@@ -189,13 +189,13 @@ room_settled : (book : endpoint_entries.BookValue) (place : ℕ) (limiters : Lis
     ≡ room_by book limiters live name
 room_settled book place limiters live name = let settled = endpoint_settled book place name in grind (arith, settled)
 
-marked_settled : {queue told : QueueValue} {book : endpoint_entries.BookValue} {limiters : List Limiter}
-    {live : List Row} (place : ℕ) → KeepsRooms queue told → AreMarked queue book limiters live
-    → AreMarked told (endpoint_entries.with_settled book place) limiters live
-marked_settled {queue} {told} {book} {limiters} {live} place rooms marked = record {
-  listed = ap (λ test. list_all test live) (λ i row. known_settled book place row.endpoint i) ∙ marked.listed;
-  known = λ name known. rooms.reserved name ∙ marked.known name (sym (known_settled book place name) ∙ known);
-  rooms = λ name there. rooms.rooms name ∙ marked.rooms name (sym (rooms.reserved name) ∙ there)
+lanes_settled : {queue told : QueueValue} {book : endpoint_entries.BookValue} {limiters : List Limiter}
+    {live : List Row} (place : ℕ) → KeepsRooms queue told → KnowsRooms queue book limiters live
+    → KnowsRooms told (endpoint_entries.with_settled book place) limiters live
+lanes_settled {queue} {told} {book} {limiters} {live} place rooms lanes = record {
+  listed = ap (λ test. list_all test live) (λ i row. known_settled book place row.endpoint i) ∙ lanes.listed;
+  known = λ name known. rooms.reserved name ∙ lanes.known name (sym (known_settled book place name) ∙ known);
+  rooms = λ name there. rooms.rooms name ∙ lanes.rooms name (sym (rooms.reserved name) ∙ there)
       ∙ sym (room_settled book place limiters live name);
 }
 
@@ -269,8 +269,8 @@ is_desk_settled {endpoints} {later} {deliveries} {moved} {steps} {rest} {live} {
           );
           numbers = omega (arith, same, h.tied.room.numbers);
         };
-        marked = subst (λ (b : endpoint_entries.BookValue). AreMarked told b limiters live) (sym e)
-            (marked_settled place rooms h.tied.marked);
+        lanes = subst (λ (b : endpoint_entries.BookValue). KnowsRooms told b limiters live) (sym e)
+            (lanes_settled place rooms h.tied.lanes);
         queued = queued live h.tied.queued;
       };
     }

@@ -108,7 +108,7 @@ pub use Rattle.desk.specs.Moves.{sealed_batch}
 pub use Rattle.desk.specs.Moves.{set_faults, stages, submit, subscribe_faults, submit_faults, submit_known, submit_new}
 pub use Rattle.desk.specs.Moves.{ticket, unless}
 pub use Rattle.desk.specs.Moves.{with_batch, with_batch_back, with_halt, with_record, with_sealed_settled}
-pub use Rattle.desk.specs.Ties.{AreApart, AreHeld, AreLimiters, AreMarked, AreQueued, AreSampled, AreTied, AreUnderWay}
+pub use Rattle.desk.specs.Ties.{AreApart, AreHeld, AreLimiters, KnowsRooms, AreQueued, AreSampled, AreTied, AreUnderWay}
 pub use Rattle.desk.specs.Ties.{HasPlaces, HasRoomForAll, HasSameNames, HasSameRooms, Holds, HoldsPair, KeepsPlaces}
 pub use Rattle.desk.specs.Ties.{KeepsRooms}
 pub use Rattle.desk.specs.Ties.{LetsGo, LetsPairGo, StandsAt, StandsBy, bound_by, bound_of, endpoint_at, idle_pair}

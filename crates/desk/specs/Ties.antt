@@ -94,7 +94,7 @@ abbrev pub room_by : endpoint_entries.BookValue → List Limiter → List Row �
 room_by book limiters live name = enabled_in book name && nat_lt (in_flight_of name live) (limit_by limiters name)
 
 -- the queue knows which endpoint has room, those of all permits that are out among them
-pub record AreMarked (queue : QueueValue) (book : endpoint_entries.BookValue) (limiters : List Limiter)
+pub record KnowsRooms (queue : QueueValue) (book : endpoint_entries.BookValue) (limiters : List Limiter)
     (live : List Row) : Type 0 where
   pub listed : IsTrue (list_all (λ row. endpoint_entries.is_known book row.endpoint) live)
   pub known : (name : Text) → IsTrue (endpoint_entries.is_known book name) → IsTrue (is_reserved queue name)
@@ -240,5 +240,5 @@ pub record AreTied (endpoints : endpoint_entries.BookValue) (deliveries : delive
     (waiting : WaitingValue) (live : List Row) (limiters : List Limiter) (queue : QueueValue) : Type 0 where
   pub limited : AreLimiters limiters endpoints
   pub room : HasRoomForAll waiting live
-  pub marked : AreMarked queue endpoints limiters live
+  pub lanes : KnowsRooms queue endpoints limiters live
   pub queued : AreQueued queue deliveries live

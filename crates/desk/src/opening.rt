@@ -4,7 +4,7 @@ ghost use Rattle.claim_queue.specs.declared.pairs.Pair.{Pair};
 ghost use Rattle.claim_queue.specs.Queues.{HasSamePairs, has_room_in, is_held};
 ghost use Rattle.endpoint_book.specs.Waiting.{IsInStep as AreInStep};
 ghost use Rattle.delivery_book.specs.Entries.{IsInStep};
-ghost use Rattle.desk.specs.Ties.{AreApart, AreHeld, AreLimiters, AreMarked, AreQueued, HasPlaces, HasSameRooms};
+ghost use Rattle.desk.specs.Ties.{AreApart, AreHeld, AreLimiters, KnowsRooms, AreQueued, HasPlaces, HasSameRooms};
 ghost use Rattle.desk.specs.Ties.{KeepsPlaces, KeepsRooms, new_limiter, row_if_settled};
 
 use crate::limiter::Limiter;
@@ -54,7 +54,7 @@ pub(crate) fn queue_of<L: Ledger>(
     requires apart { AreApart deliveries.now }
     requires settled { deliveries.now.next_seq ≡ deliveries.now.settled_seq }
     ensures queued { IfOk result (λ queue. AreQueued queue deliveries.now []) }
-    ensures marked { IfOk result (λ queue. AreMarked queue endpoints.now limiters.now []) }
+    ensures lanes { IfOk result (λ queue. KnowsRooms queue endpoints.now limiters.now []) }
     ensures in_step { OnOk result (IsInStep deliveries.now) }
 {
     let mut queue = ClaimQueue::new(alloc);
@@ -100,7 +100,7 @@ fn update_rooms<L: Ledger>(
     requires untold { (name : List ℕ) → has_room_in queue.old.states name ≡ false }
     ensures pairs { OnOk result (HasSamePairs queue.old queue.new) }
     ensures places { OnOk result (KeepsPlaces queue.old queue.new) }
-    ensures marked { OnOk result (AreMarked queue.new endpoints.now limiters.now []) }
+    ensures lanes { OnOk result (KnowsRooms queue.new endpoints.now limiters.now []) }
 {
     for name in endpoints.names() {
         queue.reserve(*name, 0)?;

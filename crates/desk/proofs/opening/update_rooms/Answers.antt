@@ -19,8 +19,8 @@ loop-name-preserved g c = record {
       c.in_ok-reserve.ensures.state c.update_room.ensures.state c.loop-name.invariant.told;
 }
 
-pub returns-clause-marked : goal.returns-clause-marked
-returns-clause-marked g c =
+pub returns-clause-lanes : goal.returns-clause-lanes
+returns-clause-lanes g c =
     let book = c.args.endpoints.now in
     marked_all c.loop-name.queue book c.args.limiters.now c.requires.limited
     (subst (λ done. AreTold c.loop-name.queue book c.args.limiters.now done)

@@ -1,4 +1,4 @@
-use Rattle.desk.proofs.Words.{◌∙◌, [], false, subst, AreMarked}
+use Rattle.desk.proofs.Words.{◌∙◌, [], false, subst, KnowsRooms}
 use Rattle.desk.proofs.DeskLaws.{stands_as}
 use Rattle.desk.proofs.OpeningLaws.{is_desk_opened, limited_new, stands_opened}
 use Rattle.desk.proofs.desk.Desk.of.Goals as goal
@@ -14,7 +14,7 @@ invariant_of-result-3 g c =
     c.endpoints.view_is c.deliveries.view_is c.requires.settled
     c.in_ok-limiters.ensures.in_step c.in_ok-limiters.ensures.all_settled c.in_ok-queue.ensures.in_step
     c.in_ok-new.ensures c.requires.empty c.in_ok-limiters.ensures.limiters c.in_ok-queue.ensures.queued
-    (subst (λ ls. AreMarked queue c.args.books.endpoints ls []) c.deref.ensures.value c.in_ok-queue.ensures.marked)
+    (subst (λ ls. KnowsRooms queue c.args.books.endpoints ls []) c.deref.ensures.value c.in_ok-queue.ensures.lanes)
 
 pub returns-clause-stands : goal.returns-clause-stands
 returns-clause-stands g c = λ history are.
