@@ -6,9 +6,13 @@ use Rattle.command_interface.proofs.serve_words.read_serve.Goals as goal
 
 pub returns-clause-asked : goal.returns-clause-asked
 returns-clause-asked c =
+    let address = c.get_str-2 in
+    let requests = c.get_one-4 in
+    let timeout = c.get_one-3 in
+    let intake = c.get_one-2 in
     let found = found_of c.args.words.now in (
       text_found found (codes "file") c.get_str.result c.in_ok-get_str.field-0 c.get_str.ensures (search rules),
-      text_found found (codes "address") c.get_str-2.result c.in_ok-get_str-2.field-0 c.get_str-2.ensures
+      text_found found (codes "address") address.result c.in_ok-get_str-2.field-0 address.ensures
           (search rules),
       number_found (λ text r. ParsesUnsigned 64 10 text r × ExplainsUnsignedError 10 text r
           × HasUnsignedDigitsIfOk text r)
@@ -16,16 +20,16 @@ returns-clause-asked c =
           c.get_one.ensures.none (λ text is. c.get_one.ensures.value text is) (search rules),
       number_found (λ text r. ParsesUnsigned 64 10 text r × ExplainsUnsignedError 10 text r
           × HasUnsignedDigitsIfOk text r)
-          found (codes "intake") c.get_one-2.result c.in_ok-get_one-2.field-0 (λ text r read. read.0)
-          c.get_one-2.ensures.none (λ text is. c.get_one-2.ensures.value text is) (search rules),
+          found (codes "intake") intake.result c.in_ok-get_one-2.field-0 (λ text r read. read.0)
+          intake.ensures.none (λ text is. intake.ensures.value text is) (search rules),
       number_found (λ text r. ParsesUnsigned 64 10 text r × ExplainsUnsignedError 10 text r
           × HasUnsignedDigitsIfOk text r)
-          found (codes "timeout") c.get_one-3.result c.in_ok-get_one-3.field-0 (λ text r read. read.0)
-          c.get_one-3.ensures.none (λ text is. c.get_one-3.ensures.value text is) (search rules),
+          found (codes "timeout") timeout.result c.in_ok-get_one-3.field-0 (λ text r read. read.0)
+          timeout.ensures.none (λ text is. timeout.ensures.value text is) (search rules),
       number_found (λ text r. ParsesUnsigned 64 10 text r × ExplainsUnsignedError 10 text r
           × HasUnsignedDigitsIfOk text r)
-          found (codes "requests") c.get_one-4.result c.in_ok-get_one-4.field-0 (λ text r read. read.0)
-          c.get_one-4.ensures.none (λ text is. c.get_one-4.ensures.value text is) (search rules),
+          found (codes "requests") requests.result c.in_ok-get_one-4.field-0 (λ text r read. read.0)
+          requests.ensures.none (λ text is. requests.ensures.value text is) (search rules),
     )
 
 pub returns-in_err-get_str-clause-none : goal.returns-in_err-get_str-clause-none
