@@ -1,5 +1,5 @@
 -- What the texts of the tables define.
-use Rattle.std.proofs.Common.{◌≡◌, Ok, refl}
+use Rattle.std.proofs.Common.{◌≡◌, Ok, Err, Result, refl}
 use Rattle.sqlite.specs.Compile.{table_defined_by}
 use Rattle.sqlite.specs.Listing.{understood}
 use Rattle.sqlite.specs.Command.TheVariants.{CreateTable}
@@ -9,6 +9,9 @@ use Rattle.sqlite_catalog.specs.Change.{created}
 use Rattle.std.specs.Fmt.{digits}
 use Rattle.sqlite_tied.specs.Compute.{everything}
 use Rattle.spool_sql.specs.Tables.{meta_text, endpoints_text, secrets_text, deliveries_text, attempts_text, topics_text}
+use Rattle.spool_sql.specs.Tables.{Defines, MakesTable}
+use Rattle.sqlite_resolve.specs.declared.compiled.Compiled.{Compiled}
+use Rattle.sqlite_resolve.specs.declared.error.CompileError.{CompileError}
 use Rattle.spool_sql.specs.Tables.{meta, endpoints, secrets, deliveries, attempts, topics, no_schema, schema_1}
 use Rattle.spool_sql.specs.Tables.{schema_2, schema_3, schema_4, first_schema, relay_schema}
 use Rattle.sqlite.specs.Table.{Table}
@@ -30,37 +33,34 @@ use Rattle.spool_sql.specs.Stored.{IsFirstTables, IsSixTables, HasRowids, topic_
 use Rattle.spool_sql.proofs.RelayLemmas.{same_five}
 use Rattle.spool_sql.proofs.InsertLemmas.{went, same_value}
 
--- the text makes this table
-pub record Makes (schema : Schema) (sql : List ℕ) (table : Table) : Type 0 where
-  pub defined : table_defined_by sql ≡ Ok table
-  pub command : command_of (understood schema sql) ≡ CreateTable
-  pub whole : statement_of sql (understood schema sql) ≡ sql
-  pub plain : IsPlain (understood schema sql)
-  pub uncounted : lacks_sequence (created schema table) ≡ false
+compiled_as : (sql : List ℕ) (r : Result Compiled CompileError) → MakesTable sql r
+    → (command_of r ≡ CreateTable) × (statement_of sql r ≡ sql) × IsPlain r
+compiled_as sql (Ok c) makes = (makes.0, makes.1, (makes.2, makes.3))
+compiled_as sql (Err e) makes = absurd makes
 
-pub makes_meta : Makes no_schema meta_text meta
+pub makes_meta : Defines no_schema meta_text meta
 unfolding understood everything
-makes_meta = record { defined = refl; command = refl; whole = refl; plain = (refl, refl); uncounted = refl }
+makes_meta = record { defined = refl; makes = (refl, refl, refl, refl); uncounted = refl }
 
-pub makes_endpoints : Makes schema_1 endpoints_text endpoints
+pub makes_endpoints : Defines schema_1 endpoints_text endpoints
 unfolding understood everything
-makes_endpoints = record { defined = refl; command = refl; whole = refl; plain = (refl, refl); uncounted = refl }
+makes_endpoints = record { defined = refl; makes = (refl, refl, refl, refl); uncounted = refl }
 
-pub makes_secrets : Makes schema_2 secrets_text secrets
+pub makes_secrets : Defines schema_2 secrets_text secrets
 unfolding understood everything
-makes_secrets = record { defined = refl; command = refl; whole = refl; plain = (refl, refl); uncounted = refl }
+makes_secrets = record { defined = refl; makes = (refl, refl, refl, refl); uncounted = refl }
 
-pub makes_deliveries : Makes schema_3 deliveries_text deliveries
+pub makes_deliveries : Defines schema_3 deliveries_text deliveries
 unfolding understood everything
-makes_deliveries = record { defined = refl; command = refl; whole = refl; plain = (refl, refl); uncounted = refl }
+makes_deliveries = record { defined = refl; makes = (refl, refl, refl, refl); uncounted = refl }
 
-pub makes_attempts : Makes schema_4 attempts_text attempts
+pub makes_attempts : Defines schema_4 attempts_text attempts
 unfolding understood everything
-makes_attempts = record { defined = refl; command = refl; whole = refl; plain = (refl, refl); uncounted = refl }
+makes_attempts = record { defined = refl; makes = (refl, refl, refl, refl); uncounted = refl }
 
-pub makes_topics : Makes first_schema topics_text topics
+pub makes_topics : Defines first_schema topics_text topics
 unfolding understood everything
-makes_topics = record { defined = refl; command = refl; whole = refl; plain = (refl, refl); uncounted = refl }
+makes_topics = record { defined = refl; makes = (refl, refl, refl, refl); uncounted = refl }
 
 pub makes_first : created schema_4 attempts ≡ first_schema
 unfolding digits
@@ -88,12 +88,13 @@ pub record HasMade (schema : Schema) (table : Table) (old new : Database) : Type
   pub kept : KeepsRows schema.tables old.trees new.trees
 
 -- the text makes its table
-module _ (schema : Schema) (sql : List ℕ) (table : Table) (m : Makes schema sql table) (old new : State) (count : ℕ)
+module _ (schema : Schema) (sql : List ℕ) (table : Table) (m : Defines schema sql table) (old new : State) (count : ℕ)
     (h : Executes sql [] old new (Ok count)) where
   pub has_made : old.now.schema ≡ schema → HasMade schema table old.now new.now
   has_made has =
-      let w = subst (λ t. Writes old new None CreateTable t [] count) m.whole
-      (runs_as sql [] old new schema has CreateTable m.command m.plain count h) in
+      let made_by = compiled_as sql (understood schema sql) m.makes in
+      let w = subst (λ t. Writes old new None CreateTable t [] count) made_by.1
+      (runs_as sql [] old new schema has CreateTable made_by.0 made_by.2 count h) in
       let all = went w.changed in
       let first = went all.1 in
       let made = first.1 in

@@ -1,11 +1,33 @@
 //! The making of the tables.
-ghost use Rattle.spool_sql.specs.Tables.{first_schema, no_schema, relay_schema, schema_1, schema_2, schema_3, schema_4};
-ghost use Rattle.spool_sql.specs.Tables.{meta, endpoints, secrets, deliveries, attempts};
+ghost use Rattle.sqlite.specs.Schema.{Schema};
+ghost use Rattle.sqlite.specs.Table.{Table};
+ghost use Rattle.spool_sql.specs.Tables.{Defines, first_schema, no_schema, relay_schema};
 ghost use Rattle.spool_sql.specs.Steps.{Achieves, Adds, Grows, Founds, IsOfSame, SparesCommit};
 
 use crate::migrate::create_topics;
 use crate::opened::prepare_probe;
 use sqlite::{Alter, Error, Transaction};
+
+const META: &str = "CREATE TABLE meta(k INTEGER PRIMARY KEY CHECK(k = 1), app TEXT NOT NULL, \
+    version INTEGER NOT NULL, records INTEGER NOT NULL) STRICT";
+
+const ENDPOINTS: &str =
+    "CREATE TABLE endpoints(put INTEGER PRIMARY KEY, name TEXT NOT NULL UNIQUE, \
+    url TEXT NOT NULL, max INTEGER NOT NULL, enabled INTEGER NOT NULL, \
+    enabled_by INTEGER NOT NULL, secrets_by INTEGER NOT NULL) STRICT";
+
+const SECRETS: &str = "CREATE TABLE secrets(endpoint INTEGER NOT NULL REFERENCES endpoints(put), \
+    place INTEGER NOT NULL, secret BLOB NOT NULL, \
+    PRIMARY KEY(endpoint, place)) STRICT";
+
+const DELIVERIES: &str = "CREATE TABLE deliveries(seq INTEGER PRIMARY KEY, \
+    endpoint INTEGER NOT NULL REFERENCES endpoints(put), id TEXT NOT NULL, \
+    at INTEGER NOT NULL, body BLOB NOT NULL, UNIQUE(endpoint, id)) STRICT";
+
+const ATTEMPTS: &str = "CREATE TABLE attempts(seq INTEGER PRIMARY KEY, \
+    delivery INTEGER NOT NULL REFERENCES deliveries(seq), \
+    number INTEGER NOT NULL, status INTEGER NOT NULL, at INTEGER NOT NULL, \
+    UNIQUE(delivery, number)) STRICT";
 
 /// Makes the six tables and the row of `meta`, in a store without tables: the rows of the history with no record. The
 /// connection then has the statement of `probe` compiled.
@@ -28,80 +50,21 @@ fn create_first_schema<S: Alter>(tx: &mut Transaction<'_, S>) -> Result<(), Erro
     ensures done { Achieves S.Store tx.old.conn.now tx.new.conn.now result (Grows no_schema first_schema) }
     ensures spares { SparesCommit S.Store tx.old.conn.now tx.new.conn.now }
 {
-    create_meta(tx)?;
-    create_endpoints(tx)?;
-    create_secrets(tx)?;
-    create_deliveries(tx)?;
-    create_attempts(tx)
+    create(tx, META)?;
+    create(tx, ENDPOINTS)?;
+    create(tx, SECRETS)?;
+    create(tx, DELIVERIES)?;
+    create(tx, ATTEMPTS)
 }
 
-fn create_meta<S: Alter>(tx: &mut Transaction<'_, S>) -> Result<(), Error>
+// The table that the text defines.
+fn create<S: Alter>(tx: &mut Transaction<'_, S>, sql: &str) -> Result<(), Error>
     ensures same_reference { IsOfSame tx.old.conn tx.new.conn }
-    ensures done { Achieves S.Store tx.old.conn.now tx.new.conn.now result (Adds no_schema meta) }
+    ensures done { (schema : Schema) (table : Table) → Defines schema sql.now table
+        → Achieves S.Store tx.old.conn.now tx.new.conn.now result (Adds schema table) }
     ensures spares { SparesCommit S.Store tx.old.conn.now tx.new.conn.now }
 {
-    tx.execute(
-        "CREATE TABLE meta(k INTEGER PRIMARY KEY CHECK(k = 1), app TEXT NOT NULL, \
-         version INTEGER NOT NULL, records INTEGER NOT NULL) STRICT",
-        &[],
-    )?;
-    Ok(())
-}
-
-fn create_endpoints<S: Alter>(tx: &mut Transaction<'_, S>) -> Result<(), Error>
-    ensures same_reference { IsOfSame tx.old.conn tx.new.conn }
-    ensures done { Achieves S.Store tx.old.conn.now tx.new.conn.now result (Adds schema_1 endpoints) }
-    ensures spares { SparesCommit S.Store tx.old.conn.now tx.new.conn.now }
-{
-    tx.execute(
-        "CREATE TABLE endpoints(put INTEGER PRIMARY KEY, name TEXT NOT NULL UNIQUE, \
-         url TEXT NOT NULL, max INTEGER NOT NULL, enabled INTEGER NOT NULL, \
-         enabled_by INTEGER NOT NULL, secrets_by INTEGER NOT NULL) STRICT",
-        &[],
-    )?;
-    Ok(())
-}
-
-fn create_secrets<S: Alter>(tx: &mut Transaction<'_, S>) -> Result<(), Error>
-    ensures same_reference { IsOfSame tx.old.conn tx.new.conn }
-    ensures done { Achieves S.Store tx.old.conn.now tx.new.conn.now result (Adds schema_2 secrets) }
-    ensures spares { SparesCommit S.Store tx.old.conn.now tx.new.conn.now }
-{
-    tx.execute(
-        "CREATE TABLE secrets(endpoint INTEGER NOT NULL REFERENCES endpoints(put), \
-         place INTEGER NOT NULL, secret BLOB NOT NULL, \
-         PRIMARY KEY(endpoint, place)) STRICT",
-        &[],
-    )?;
-    Ok(())
-}
-
-fn create_deliveries<S: Alter>(tx: &mut Transaction<'_, S>) -> Result<(), Error>
-    ensures same_reference { IsOfSame tx.old.conn tx.new.conn }
-    ensures done { Achieves S.Store tx.old.conn.now tx.new.conn.now result (Adds schema_3 deliveries) }
-    ensures spares { SparesCommit S.Store tx.old.conn.now tx.new.conn.now }
-{
-    tx.execute(
-        "CREATE TABLE deliveries(seq INTEGER PRIMARY KEY, \
-         endpoint INTEGER NOT NULL REFERENCES endpoints(put), id TEXT NOT NULL, \
-         at INTEGER NOT NULL, body BLOB NOT NULL, UNIQUE(endpoint, id)) STRICT",
-        &[],
-    )?;
-    Ok(())
-}
-
-fn create_attempts<S: Alter>(tx: &mut Transaction<'_, S>) -> Result<(), Error>
-    ensures same_reference { IsOfSame tx.old.conn tx.new.conn }
-    ensures done { Achieves S.Store tx.old.conn.now tx.new.conn.now result (Adds schema_4 attempts) }
-    ensures spares { SparesCommit S.Store tx.old.conn.now tx.new.conn.now }
-{
-    tx.execute(
-        "CREATE TABLE attempts(seq INTEGER PRIMARY KEY, \
-         delivery INTEGER NOT NULL REFERENCES deliveries(seq), \
-         number INTEGER NOT NULL, status INTEGER NOT NULL, at INTEGER NOT NULL, \
-         UNIQUE(delivery, number)) STRICT",
-        &[],
-    )?;
+    tx.execute(sql, &[])?;
     Ok(())
 }
 
