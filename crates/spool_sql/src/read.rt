@@ -2,18 +2,13 @@
 ghost use Rattle.std.specs.Prelude.{◌≡◌, ℕ, pos, [], ◌∷◌, map, option_map, slice_get, Some, IfOk, IfErr};
 ghost use Rattle.std.specs.List.{AllByRecursion};
 ghost use Rattle.sqlite.specs.declared.types.Value.TheVariants.{Int};
-ghost use Rattle.sqlite_value.specs.Order.{column, bytes};
-ghost use Rattle.spool_sql.specs.Readable.{AreRowsRefusedFor, IsMemory, IsMemoryFault, IsRefusedFor, ShowsAttempt};
-ghost use Rattle.spool_sql.specs.Readable.{ShowsDelivery, ShowsEndpoint, ShowsSecret, ShowsTopic};
-ghost use Rattle.spool_sql.specs.Stored.{IsPage, AreSecretsOf, number_of, endpoint_in, endpoint_of, delivery_in};
-ghost use Rattle.spool_sql.specs.Stored.{delivery_of, attempt_in, attempt_of, topic_in, topic_of};
+ghost use Rattle.spool_sql.specs.Readable.{AreRowsRefusedFor, IsMemory, IsMemoryFault, IsRefusedFor};
+ghost use Rattle.spool_sql.specs.Stored.{IsPage, AreSecretsOf, number_of, endpoint_of, delivery_of, attempt_of};
+ghost use Rattle.spool_sql.specs.Stored.{topic_of};
 ghost use Rattle.spool_sql.specs.Steps.{LeavesAll, LooksUp, IsOfSame, SparesCommit};
 
 use crate::query::query;
-use crate::row::{
-    AttemptRow, DeliveryRow, EndpointRow, RowFault, TopicRow, read_attempt, read_delivery,
-    read_endpoint, read_secret, read_topic,
-};
+use crate::row::{AttemptRow, DeliveryRow, EndpointRow, FromRow, RowFault, TopicRow};
 use crate::seq::Seq;
 use relay_types::Secret;
 use sqlite::{Alter, Error, Row, Transaction};
@@ -61,19 +56,7 @@ pub fn select_endpoints<S: Alter>(
          WHERE put >= ?1 ORDER BY put LIMIT 256",
         &[from.value()],
     )?;
-    read_endpoints(&rows, alloc)
-}
-
-// The endpoints that the rows show.
-fn read_endpoints(rows: &[Row], alloc: Global) -> Result<Vec<EndpointRow>, RowFault>
-    ensures value { IfOk result (λ found. map endpoint_of found.items ≡ map endpoint_in rows.now) }
-    ensures refused { IfErr result (λ fault. AllByRecursion ShowsEndpoint rows.now → IsMemoryFault fault) }
-{
-    let mut found = Vec::with_capacity(alloc, rows.len()).map_err(Error::from)?;
-    for row in rows {
-        found.push(read_endpoint(row, alloc)?).map_err(Error::from)?;
-    }
-    Ok(found)
+    read_rows(&rows, alloc)
 }
 
 /// The secrets of the endpoint that the record with number `endpoint` made, the newest first.
@@ -94,19 +77,7 @@ pub fn select_secrets<S: Alter>(
         "SELECT secret FROM secrets WHERE endpoint = ?1 ORDER BY place",
         &[endpoint.value()],
     )?;
-    read_secrets(&rows, alloc)
-}
-
-// The secrets that the rows show.
-fn read_secrets(rows: &[Row], alloc: Global) -> Result<Vec<Secret>, RowFault>
-    ensures value { IfOk result (λ found. found.items ≡ map (λ row. bytes (column row 0)) rows.now) }
-    ensures refused { IfErr result (λ fault. AllByRecursion ShowsSecret rows.now → IsMemoryFault fault) }
-{
-    let mut found = Vec::with_capacity(alloc, rows.len()).map_err(Error::from)?;
-    for row in rows {
-        found.push(read_secret(row)?).map_err(Error::from)?;
-    }
-    Ok(found)
+    read_rows(&rows, alloc)
 }
 
 /// The first 256 events with numbers from `from` on, in the order of their numbers.
@@ -127,19 +98,7 @@ pub fn select_deliveries<S: Alter>(
         "SELECT seq, endpoint, id, at, body FROM deliveries WHERE seq >= ?1 ORDER BY seq LIMIT 256",
         &[from.value()],
     )?;
-    read_deliveries(&rows, alloc)
-}
-
-// The events that the rows show.
-fn read_deliveries(rows: &[Row], alloc: Global) -> Result<Vec<DeliveryRow>, RowFault>
-    ensures value { IfOk result (λ found. map delivery_of found.items ≡ map delivery_in rows.now) }
-    ensures refused { IfErr result (λ fault. AllByRecursion ShowsDelivery rows.now → IsMemoryFault fault) }
-{
-    let mut found = Vec::with_capacity(alloc, rows.len()).map_err(Error::from)?;
-    for row in rows {
-        found.push(read_delivery(row, alloc)?).map_err(Error::from)?;
-    }
-    Ok(found)
+    read_rows(&rows, alloc)
 }
 
 /// The first 256 attempts with numbers from `from` on, in the order of their numbers.
@@ -160,19 +119,7 @@ pub fn select_attempts<S: Alter>(
         "SELECT seq, delivery, number, status, at FROM attempts WHERE seq >= ?1 ORDER BY seq LIMIT 256",
         &[from.value()],
     )?;
-    read_attempts(&rows, alloc)
-}
-
-// The attempts that the rows show.
-fn read_attempts(rows: &[Row], alloc: Global) -> Result<Vec<AttemptRow>, RowFault>
-    ensures value { IfOk result (λ found. map attempt_of found.items ≡ map attempt_in rows.now) }
-    ensures refused { IfErr result (λ fault. AllByRecursion ShowsAttempt rows.now → IsMemoryFault fault) }
-{
-    let mut found = Vec::with_capacity(alloc, rows.len()).map_err(Error::from)?;
-    for row in rows {
-        found.push(read_attempt(row)?).map_err(Error::from)?;
-    }
-    Ok(found)
+    read_rows(&rows, alloc)
 }
 
 /// The first 256 topics of endpoints that records with numbers from `from` on decided, in the order of these numbers.
@@ -193,17 +140,17 @@ pub fn select_topics<S: Alter>(
         "SELECT topic, endpoint, subscribed, set_by FROM topics WHERE set_by >= ?1 ORDER BY set_by LIMIT 256",
         &[from.value()],
     )?;
-    read_topics(&rows, alloc)
+    read_rows(&rows, alloc)
 }
 
-// The topics that the rows show.
-fn read_topics(rows: &[Row], alloc: Global) -> Result<Vec<TopicRow>, RowFault>
-    ensures value { IfOk result (λ found. map topic_of found.items ≡ map topic_in rows.now) }
-    ensures refused { IfErr result (λ fault. AllByRecursion ShowsTopic rows.now → IsMemoryFault fault) }
+// What the rows show, one value for each.
+fn read_rows<T: FromRow>(rows: &[Row], alloc: Global) -> Result<Vec<T>, RowFault>
+    ensures value { IfOk result (λ found. map T.of found.items ≡ map T.in_row rows.now) }
+    ensures refused { IfErr result (λ fault. AllByRecursion T.Shows rows.now → IsMemoryFault fault) }
 {
     let mut found = Vec::with_capacity(alloc, rows.len()).map_err(Error::from)?;
     for row in rows {
-        found.push(read_topic(row)?).map_err(Error::from)?;
+        found.push(T::read(row, alloc)?).map_err(Error::from)?;
     }
     Ok(found)
 }

@@ -1,8 +1,9 @@
 //! The rows of the tables, as they are read.
 ghost use Rattle.std.specs.Prelude.{◌≡◌, ◌≢◌, ◌==◌, ◌<◌, ℕ, Bool, List, pos, not, IfOk, IfErr, IsTrue};
 ghost use Rattle.sqlite.specs.declared.types.Value.TheVariants.{Int, Text, Blob};
-ghost use Rattle.sqlite_value.specs.Order.{column, bytes};
+ghost use Rattle.sqlite_value.specs.Order.{Row, column, bytes};
 ghost use Rattle.sqlite_trees.specs.Objects.{number_in};
+ghost use Rattle.relay_types.specs.Rows as Rows;
 ghost use Rattle.relay_types.specs.Values.{is_body, is_max_limit, is_moment, is_msg_id, is_name, is_secret, is_target};
 ghost use Rattle.spool_sql.specs.Readable.{IsAt, IsMemoryFault, IsSeq, ShowsAttempt, ShowsDelivery, ShowsEndpoint};
 ghost use Rattle.spool_sql.specs.Readable.{ShowsSecret, ShowsTopic};
@@ -87,6 +88,25 @@ pub struct TopicRow {
     pub endpoint: Seq,
     pub subscribed: bool,
     pub set_by: Seq,
+}
+
+/// What is read from a row of a query.
+pub(crate) trait FromRow: Drop {
+    // Its type in the definitions.
+    ghost Value: { Type 0 };
+
+    // Its value there.
+    ghost of: { Self → Value };
+
+    // The value that the row shows.
+    ghost in_row: { Row → Value };
+
+    // The row shows one that can be read back.
+    ghost Shows: { Row → Type 0 };
+
+    fn read(row: &Row, alloc: Global) -> Result<Self, RowFault>
+        ensures value { IfOk result (λ shown. of shown ≡ in_row row.now) }
+        ensures refused { IfErr result (λ fault. Shows row.now → IsMemoryFault fault) };
 }
 
 fn read_seq(row: &Row, at: usize) -> Result<Seq, RowFault>
@@ -198,74 +218,104 @@ fn read_flag(row: &Row, at: usize) -> Result<bool, RowFault>
     }
 }
 
-// The secret that the row shows first.
-pub(crate) fn read_secret(row: &Row) -> Result<Secret, RowFault>
-    ensures value { IfOk result (λ secret. secret ≡ bytes (column row.now 0)) }
-    ensures refused { IfErr result (λ fault. ShowsSecret row.now → IsMemoryFault fault) }
-{
-    match Secret::of(read_bytes(row, 0)?) {
-        Ok(secret) => Ok(secret),
-        Err(_) => Err(RowFault::Unreadable),
+impl FromRow for Secret {
+    ghost Value = { List ℕ };
+
+    ghost of = { λ secret. secret };
+
+    ghost in_row = { λ row. bytes (column row 0) };
+
+    ghost Shows = { ShowsSecret };
+
+    fn read(row: &Row, _: Global) -> Result<Secret, RowFault> {
+        match Secret::of(read_bytes(row, 0)?) {
+            Ok(secret) => Ok(secret),
+            Err(_) => Err(RowFault::Unreadable),
+        }
     }
 }
 
-// The endpoint that the row shows.
-pub(crate) fn read_endpoint(row: &Row, alloc: Global) -> Result<EndpointRow, RowFault>
-    ensures value { IfOk result (λ endpoint. endpoint_of endpoint ≡ endpoint_in row.now) }
-    ensures refused { IfErr result (λ fault. ShowsEndpoint row.now → IsMemoryFault fault) }
-{
-    Ok(EndpointRow {
-        put: read_seq(row, 0)?,
-        name: read_name(row, 1)?,
-        target: read_target(row, 2, alloc)?,
-        max: read_max(row, 3)?,
-        enabled: read_flag(row, 4)?,
-        enabled_by: read_seq(row, 5)?,
-        secrets_by: read_seq(row, 6)?,
-    })
+impl FromRow for EndpointRow {
+    ghost Value = { Rows.EndpointRow };
+
+    ghost of = { endpoint_of };
+
+    ghost in_row = { endpoint_in };
+
+    ghost Shows = { ShowsEndpoint };
+
+    fn read(row: &Row, alloc: Global) -> Result<EndpointRow, RowFault> {
+        Ok(EndpointRow {
+            put: read_seq(row, 0)?,
+            name: read_name(row, 1)?,
+            target: read_target(row, 2, alloc)?,
+            max: read_max(row, 3)?,
+            enabled: read_flag(row, 4)?,
+            enabled_by: read_seq(row, 5)?,
+            secrets_by: read_seq(row, 6)?,
+        })
+    }
 }
 
-// The event that the row shows.
-pub(crate) fn read_delivery(row: &Row, alloc: Global) -> Result<DeliveryRow, RowFault>
-    ensures value { IfOk result (λ delivery. delivery_of delivery ≡ delivery_in row.now) }
-    ensures refused { IfErr result (λ fault. ShowsDelivery row.now → IsMemoryFault fault) }
-{
-    Ok(DeliveryRow {
-        seq: read_seq(row, 0)?,
-        endpoint: read_seq(row, 1)?,
-        id: read_id(row, 2)?,
-        at: read_moment(row, 3)?,
-        body: read_body(row, 4, alloc)?,
-    })
+impl FromRow for DeliveryRow {
+    ghost Value = { Rows.DeliveryRow };
+
+    ghost of = { delivery_of };
+
+    ghost in_row = { delivery_in };
+
+    ghost Shows = { ShowsDelivery };
+
+    fn read(row: &Row, alloc: Global) -> Result<DeliveryRow, RowFault> {
+        Ok(DeliveryRow {
+            seq: read_seq(row, 0)?,
+            endpoint: read_seq(row, 1)?,
+            id: read_id(row, 2)?,
+            at: read_moment(row, 3)?,
+            body: read_body(row, 4, alloc)?,
+        })
+    }
 }
 
-// The attempt that the row shows.
-pub(crate) fn read_attempt(row: &Row) -> Result<AttemptRow, RowFault>
-    ensures value { IfOk result (λ attempt. attempt_of attempt ≡ attempt_in row.now) }
-    ensures refused { IfErr result (λ fault. ShowsAttempt row.now → IsMemoryFault fault) }
-{
-    let status: u32 = row.get(3)?;
-    let Ok(status) = u16::try_from(status) else {
-        return Err(RowFault::Unreadable);
-    };
-    Ok(AttemptRow {
-        seq: read_seq(row, 0)?,
-        delivery: read_seq(row, 1)?,
-        number: row.get(2)?,
-        status,
-        at: read_moment(row, 4)?,
-    })
+impl FromRow for AttemptRow {
+    ghost Value = { Rows.AttemptRow };
+
+    ghost of = { attempt_of };
+
+    ghost in_row = { attempt_in };
+
+    ghost Shows = { ShowsAttempt };
+
+    fn read(row: &Row, _: Global) -> Result<AttemptRow, RowFault> {
+        let status: u32 = row.get(3)?;
+        let Ok(status) = u16::try_from(status) else {
+            return Err(RowFault::Unreadable);
+        };
+        Ok(AttemptRow {
+            seq: read_seq(row, 0)?,
+            delivery: read_seq(row, 1)?,
+            number: row.get(2)?,
+            status,
+            at: read_moment(row, 4)?,
+        })
+    }
 }
 
-// The topic of an endpoint that the row shows.
-pub(crate) fn read_topic(row: &Row) -> Result<TopicRow, RowFault>
-    ensures value { IfOk result (λ topic. topic_of topic ≡ topic_in row.now) }
-    ensures refused { IfErr result (λ fault. ShowsTopic row.now → IsMemoryFault fault) }
-{
-    Ok(TopicRow {
-        topic: read_name(row, 0)?,
-        endpoint: read_seq(row, 1)?,
-        subscribed: read_flag(row, 2)?,
-        set_by: read_seq(row, 3)?,
-    })
+impl FromRow for TopicRow {
+    ghost Value = { Rows.TopicRow };
+
+    ghost of = { topic_of };
+
+    ghost in_row = { topic_in };
+
+    ghost Shows = { ShowsTopic };
+
+    fn read(row: &Row, _: Global) -> Result<TopicRow, RowFault> {
+        Ok(TopicRow {
+            topic: read_name(row, 0)?,
+            endpoint: read_seq(row, 1)?,
+            subscribed: read_flag(row, 2)?,
+            set_by: read_seq(row, 3)?,
+        })
+    }
 }

@@ -15,7 +15,7 @@ query-requires g c = attempts_select_bare
 
 pub returns-clause-found : goal.returns-clause-found
 returns-clause-found g c clean =
-    ok_then c.read_attempts.result _ _ c.read_attempts.ensures.value (λ page is rows t.
+    ok_then c.read_rows.result _ _ c.read_rows.ensures.value (λ page is rows t.
     subst (IsPage (λ (a : AttemptRow). a.seq) c.args.from rows.attempts)
     (sym (is ∙ ap (map attempt_in) c.deref.ensures.value))
     (tells_attempts (state g.S.Store c.args.tx.now.conn.now) (state g.S.Store c.query.new.tx.conn.now)
@@ -34,8 +34,8 @@ pub returns-clause-refused : goal.returns-clause-refused
 returns-clause-refused g c clean =
     let a = state g.S.Store c.args.tx.now.conn.now in
     let b = state g.S.Store c.query.new.tx.conn.now in
-    err_then c.read_attempts.result _ (λ e. (rows : Rows) → IsTables a.now rows → AreReadable rows → IsRowRefusal a b e)
-    c.read_attempts.ensures.refused
+    err_then c.read_rows.result _ (λ e. (rows : Rows) → IsTables a.now rows → AreReadable rows → IsRowRefusal a b e)
+    c.read_rows.ensures.refused
     (λ e memory rows t readable. row_memory a b e
     (memory (rw c.deref.ensures.value
     (shows_attempts a b _ rows t c.args.from (rw c.value.ensures.value at (c.in_ok-rows.ensures.shown clean))

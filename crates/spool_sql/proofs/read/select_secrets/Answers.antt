@@ -1,4 +1,4 @@
-use Rattle.std.proofs.Common.{sym, ap, subst, ◌∙◌, map}
+use Rattle.std.proofs.Common.{sym, ap, subst, ◌∙◌, map, map-id}
 use Rattle.sqlite.specs.Held.{state}
 use Rattle.relay_types.specs.Rows.{Rows}
 use Rattle.spool_sql.specs.declared.row.RowFault.TheVariants.{Failed}
@@ -17,9 +17,9 @@ query-requires g c = secrets_select_bare
 
 pub returns-clause-found : goal.returns-clause-found
 returns-clause-found g c clean =
-    ok_then c.read_secrets.result _ _ c.read_secrets.ensures.value (λ found is rows t.
+    ok_then c.read_rows.result _ _ c.read_rows.ensures.value (λ found is rows t.
     subst (AreSecretsOf c.args.endpoint rows)
-    (sym (is ∙ ap (map (λ (row : Row). bytes (column row 0))) c.deref.ensures.value))
+    (sym (sym (map-id found.items) ∙ is ∙ ap (map (λ (row : Row). bytes (column row 0))) c.deref.ensures.value))
     (tells_secrets (state g.S.Store c.args.tx.now.conn.now) (state g.S.Store c.query.new.tx.conn.now)
     c.in_ok-rows.rows.items rows t c.args.endpoint (rw c.value.ensures.value at (c.in_ok-rows.ensures.shown clean))))
 
@@ -36,8 +36,8 @@ pub returns-clause-refused : goal.returns-clause-refused
 returns-clause-refused g c clean =
     let a = state g.S.Store c.args.tx.now.conn.now in
     let b = state g.S.Store c.query.new.tx.conn.now in
-    err_then c.read_secrets.result _ (λ e. (rows : Rows) → IsTables a.now rows → AreReadable rows → IsRowRefusal a b e)
-    c.read_secrets.ensures.refused
+    err_then c.read_rows.result _ (λ e. (rows : Rows) → IsTables a.now rows → AreReadable rows → IsRowRefusal a b e)
+    c.read_rows.ensures.refused
     (λ e memory rows t readable. row_memory a b e
     (memory (rw c.deref.ensures.value
     (shows_secrets a b _ rows t c.args.endpoint (rw c.value.ensures.value at (c.in_ok-rows.ensures.shown clean))

@@ -1,7 +1,7 @@
 use Rattle.std.proofs.Common.{refl, arith}
 use Rattle.spool_sql.specs.Readable.{IsMemoryFault, ShowsSecret}
 use Rattle.spool_sql.proofs.ReadableLemmas.{handed_on, at_row}
-use Rattle.spool_sql.proofs.row.read_secret.Goals as goal
+use Rattle.spool_sql.proofs.row.SecretFromRow.read.Goals as goal
 
 pub returns-in_err-read_bytes-clause-refused : goal.returns-in_err-read_bytes-clause-refused
 returns-in_err-read_bytes-clause-refused c =
