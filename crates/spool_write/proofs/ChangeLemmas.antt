@@ -2,6 +2,7 @@
 use Rattle.std.proofs.Common.{◌≡◌, ◌==◌, ℕ, Bool, true, false, ◌&&◌, not, nat_lt, cond, List, [], ◌∷◌, ◌++◌, map}
 use Rattle.std.proofs.Common.{Option, Some, None, refl, sym, ap, subst, ◌∙◌, arith, append_assoc}
 use Rattle.std.specs.Prelude.{is_some, filter, bytes_eq, if◌then◌else◌}
+use Rattle.std.specs.Bool.{then_some}
 use Rattle.std.specs.Option.{option_map_or}
 use Rattle.std.specs.List.Sorted.{IsPermutation}
 use Rattle.std.proofs.lemmas.List.Sorted.{IsPermutation-filter_both, IsPermutation-append_left}
@@ -140,3 +141,7 @@ replaced_in_place put secrets rows =
     (IsPermutation-append_right below (above ++ new) (new ++ above) (IsPermutation-append_comm above new))) in
     IsPermutation-trans (others ++ new) ((below ++ above) ++ new) ((below ++ new) ++ above)
     (IsPermutation-append_left new others (below ++ above) parts) moved
+
+pub some_if : (b : Bool) (put : ℕ) → then_some b put ≡ (if b then Some put else None)
+some_if true put = refl
+some_if false put = refl

@@ -1,13 +1,13 @@
 -- What a Purge takes out of the rows of a legal history, page by page.
 use Rattle.std.proofs.Common.{◌≡◌, ◌<◌, ◌≤◌, ◌⊎◌, inl, inr, ℕ, zero, suc, ◌+◌, ◌-◌, ◌==◌, Bool, true, false, ◌&&◌, ◌||◌}
-use Rattle.std.proofs.Common.{not, cond, List, [], ◌∷◌, ◌++◌, length, map, take, Option, Some, None, IsTrue, nat_le}
+use Rattle.std.proofs.Common.{not, cond, List, [], ◌∷◌, length, map, take, Option, Some, None, nat_le}
 use Rattle.std.proofs.Common.{nat_lt}
 use Rattle.std.proofs.Common.{refl, sym, ap, subst, ◌∙◌, arith}
 use Rattle.std.specs.Prelude.{filter, count_by, slice_get, option_map}
-use Rattle.std.specs.List.{list_all, list_any}
+use Rattle.std.specs.List.{list_any}
 use Rattle.std.specs.List.Sorted.{IsPermutation, IsNonDecreasingBy}
 use Rattle.std.specs.Option.{option_map_or}
-use Rattle.std.proofs.lemmas.Bool.{cases_lt, eq-eqb, eqb-true, eqb-false, le-leb, le-ltb, lt-ltb, ltb-true, ltb-false}
+use Rattle.std.proofs.lemmas.Bool.{cases_lt, eq-eqb, eqb-true, eqb-false, le-leb, le-ltb, lt-ltb, ltb-true}
 use Rattle.std.proofs.lemmas.Bool.{ne_eqb}
 use Rattle.std.proofs.lemmas.List.Folds.{fold-map}
 use Rattle.relay_types.specs.declared.limits.TheConstants.{MAX_FAILURES}
@@ -23,9 +23,9 @@ use Rattle.relay_types.proofs.ConditionLaws.{attempt_values, delivery_below}
 use Rattle.relay_types.proofs.FilterLaws.{fewer, filter_all, filter_none, rising_filter, rising_map}
 use Rattle.relay_types.proofs.KeyLaws.{legal_sound}
 use Rattle.relay_types.proofs.PurgeLaws.{left_of, left_twice}
-use Rattle.relay_types.proofs.TableLaws.{In, all_if, any_in, filter_in, in_all, in_any, in_filter, in_map, map_in}
+use Rattle.relay_types.proofs.TableLaws.{In, all_if, any_in, filter_in, in_all, in_any, in_filter, map_in}
 use Rattle.relay_types.proofs.TableLaws.{none_if}
-use Rattle.relay_types.proofs.TableLaws.{rising_from, rising_lower, some_same}
+use Rattle.relay_types.proofs.TableLaws.{rising_from, some_same}
 use Rattle.spool_sql.specs.declared.row.Tried.{Tried}
 use Rattle.sqlite_trees.proofs.ListLemmas.{IsPermutation-filter, filter-map}
 use Rattle.spool_sql.specs.Stored.{AreTriesBetween, HaveOwnNumbers, IsPage, is_between, page_rows, tried_of}

@@ -1,6 +1,6 @@
 -- The rows of an endpoint's secrets, written one after another.
 use Rattle.std.proofs.Common.{◌≡◌, ◌<◌, ℕ, zero, suc, ◌+◌, true, List, [], ◌∷◌, ◌++◌, map, length, take, Some, None}
-use Rattle.std.proofs.Common.{IsTrue, inl, refl, sym, ap, subst, ◌∙◌, arith, add-zero, add-one, append-nil}
+use Rattle.std.proofs.Common.{IsTrue, refl, sym, ap, subst, ◌∙◌, arith, add-zero, add-one, append-nil}
 use Rattle.std.proofs.Common.{append_assoc}
 use Rattle.std.specs.Prelude.{slice_get}
 use Rattle.std.specs.List.{enumerate_from, list_all}
@@ -8,7 +8,7 @@ use Rattle.sqlite.specs.State.{State}
 use Rattle.relay_types.specs.Values.{is_secret}
 use Rattle.relay_types.specs.Rows.{SecretRow, secret_rows}
 use Rattle.spool_sql.specs.Stored.{IsTables, with_secret}
-use Rattle.spool_sql.specs.Steps.{Alters, Spares}
+use Rattle.spool_sql.specs.Steps.{Alters}
 use Rattle.spool_sql.proofs.StepLemmas.{alters_then}
 use Rattle.relay_types.proofs.KnownLaws.{and_first, and_second, and_both}
 use Rattle.spool_write.specs.Entering.{with_secrets}

@@ -1,10 +1,9 @@
 -- Whether an endpoint may be subscribed to a topic, as the tables tell.
-use Rattle.std.proofs.Common.{◌≡◌, ◌≤◌, ◌<◌, ℕ, Bool, true, false, List, [], ◌∷◌, length, map, Some, None, refl, sym}
+use Rattle.std.proofs.Common.{◌≡◌, ℕ, Bool, true, false, List, [], ◌∷◌, length, map, Some, None, refl, sym}
 use Rattle.std.proofs.Common.{ap, ◌∙◌, arith}
 use Rattle.std.specs.Prelude.{◌&&◌, ◌||◌, nat_lt, find, is_some, bytes_eq, if◌then◌else◌}
 use Rattle.std.specs.List.{list_any}
 use Rattle.std.proofs.lemmas.List.{length-map}
-use Rattle.std.proofs.lemmas.Bool.{le-ltb, lt-ltb}
 use Rattle.relay_types.specs.declared.limits.TheConstants.{MAX_SUBSCRIPTIONS}
 use Rattle.relay_types.specs.declared.record.Record.{Record}
 use Rattle.relay_types.specs.Endpoints.{has_endpoint}
@@ -60,19 +59,6 @@ module _ (records : List Record) (legal : IsLegal records) (topic name : List �
   named_by put b is pair has =
       sym (pair ∙ ap (has_pair (rows_of records) topic) is ∙ pair_is has)
 
-  rows_counted : (count : ℕ) → count ≡ length (rows_of records).topics → length (subscriptions records) ≡ count
-  rows_counted count is = omega (arith, is, length-map (subscriptions records) (topic_row records))
-
-  -- the pair isn't named, and there is no room for one more
-  pub full_told : (put count : ℕ) → IsPutOf name (rows_of records) (Some put)
-      → false ≡ has_pair (rows_of records) topic put → count ≡ length (rows_of records).topics
-      → MAX_SUBSCRIPTIONS ≤ count → None ≡ subscribing records topic name
-  full_told put count found pair counted full =
-      let known = known_endpoint records name put legal found in
-      let is = rows_counted count counted in
-      told_as false false (named_by put false known.1 pair (sym known.0))
-      (le-ltb (length (subscriptions records)) MAX_SUBSCRIPTIONS (omega (arith, is, full))) (sym known.0)
-
   some_told : (put : ℕ) → put ≡ put_of records name → Some (put_of records name) ≡ subscribing records topic name
       → Some put ≡ subscribing records topic name
   some_told put is h = ap Some is ∙ h
@@ -85,12 +71,14 @@ module _ (records : List Record) (legal : IsLegal records) (topic name : List �
       some_told put known.1 (told_as true (nat_lt (length (subscriptions records)) MAX_SUBSCRIPTIONS)
       (named_by put true known.1 pair (sym known.0)) refl (sym known.0))
 
-  -- there is room for one more
-  pub room_told : (put count : ℕ) → IsPutOf name (rows_of records) (Some put)
+  -- it isn't, and there is room for one more, or not
+  pub counted_told : (put count : ℕ) → IsPutOf name (rows_of records) (Some put)
       → false ≡ has_pair (rows_of records) topic put → count ≡ length (rows_of records).topics
-      → count < MAX_SUBSCRIPTIONS → Some put ≡ subscribing records topic name
-  room_told put count found pair counted room =
+      → (if nat_lt count MAX_SUBSCRIPTIONS then Some put else None) ≡ subscribing records topic name
+  counted_told put count found pair counted =
       let known = known_endpoint records name put legal found in
-      let is = rows_counted count counted in
-      some_told put known.1 (told_as false true (named_by put false known.1 pair (sym known.0))
-      (lt-ltb (length (subscriptions records)) MAX_SUBSCRIPTIONS (omega (arith, is, room))) (sym known.0))
+      let is : length (subscriptions records) ≡ count =
+      omega (arith, counted, length-map (subscriptions records) (topic_row records)) in
+      ap (λ p. if nat_lt count MAX_SUBSCRIPTIONS then Some p else None) known.1
+      ∙ told_as false (nat_lt count MAX_SUBSCRIPTIONS) (named_by put false known.1 pair (sym known.0))
+      (ap (λ n. nat_lt n MAX_SUBSCRIPTIONS) is) (sym known.0)

@@ -56,11 +56,7 @@ fn find_attempted<S: Alter>(
         return Ok(None);
     };
     let statuses = select_statuses(tx, delivery)?;
-    if may_be_next(&statuses, attempt, status) {
-        Ok(Some(put))
-    } else {
-        Ok(None)
-    }
+    Ok(may_be_next(&statuses, attempt, status).then_some(put))
 }
 
 // Whether an attempt of this number and status may be the next one after those of these statuses.

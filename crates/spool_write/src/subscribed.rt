@@ -49,8 +49,6 @@ fn find_subscribing<S: Alter>(
     if has_topic(tx, topic, put)? {
         return Ok(Some(put));
     }
-    if count_topics(tx)? >= MAX_SUBSCRIPTIONS {
-        return Ok(None);
-    }
-    Ok(Some(put))
+    let count = count_topics(tx)?;
+    Ok((count < MAX_SUBSCRIPTIONS).then_some(put))
 }

@@ -1,7 +1,6 @@
-use Rattle.std.proofs.Common.{refl, sym, subst₂, arith, ◌∙◌}
+use Rattle.std.proofs.Common.{refl, arith, ◌∙◌}
 use Rattle.sqlite.specs.State.{HasCleanDisk}
 use Rattle.sqlite.specs.Held.{state}
-use Rattle.relay_types.specs.declared.record.Record.TheVariants.{Purge}
 use Rattle.spool_sql.proofs.StepLemmas.{spares_then}
 use Rattle.spool_write.proofs.PurgeSteps.{walk_begun, walk_more, purge_made}
 use Rattle.spool_sql.proofs.StepLemmas.{spares_none}
