@@ -326,18 +326,12 @@ all_out w (held.Doubt doubt) h = places_at w doubt h
 
 -- Halts
 
-abbrev pub is_no_receipt : Held → Bool
-is_no_receipt held.Nothing = true
-is_no_receipt (held.Batch batch) = true
-is_no_receipt (held.Receipt receipt) = false
-is_no_receipt (held.Doubt doubt) = true
-
--- and if it isn't a receipt, the desk takes it
-haltable_out : (w : WaitingValue) (now : Held) → is_no_receipt now ≡ true → HoldsOut (batch_out w) now
+-- if it isn't a receipt, the desk takes it
+haltable_out : (w : WaitingValue) (now : Held) → receipt_of now ≡ None → HoldsOut (batch_out w) now
     → turns.IsHeldOf w (given_of now)
 haltable_out w held.Nothing e h = none_out w h
 haltable_out w (held.Batch batch) e h = places_at w (doubt_of batch) (ap (option_map doubt_of) h)
-haltable_out w (held.Receipt receipt) e h = absurd (let no = e in cc)
+haltable_out w (held.Receipt receipt) e h = absurd (let no : Some receipt ≡ None = e in cc)
 haltable_out w (held.Doubt doubt) e h = places_at w doubt h
 
 -- the facts of a held thing that isn't a receipt
@@ -345,15 +339,15 @@ record IsHaltable (mark : ℕ) (s : Session) (now : Held) : Type 0 where
   out : IsHeldOf mark s.world (given_of now)
   answer : halts s s.world.out ≡ moves s says.Halted (with_halt s.world)
 
-is_haltable : (mark : ℕ) (s : Session) (now : Held) → is_no_receipt now ≡ true → IsHeld mark s.world now
+is_haltable : (mark : ℕ) (s : Session) (now : Held) → receipt_of now ≡ None → IsHeld mark s.world now
     → IsHaltable mark s now
 is_haltable mark s held.Nothing e h = record { out = ap is_nothing_out h; answer = ap (halts s) h }
 is_haltable mark s (held.Batch batch) e h = record { out = are_places mark s.world batch h; answer = ap (halts s) h.0 }
-is_haltable mark s (held.Receipt receipt) e h = absurd (let no = e in cc)
+is_haltable mark s (held.Receipt receipt) e h = absurd (let no : Some receipt ≡ None = e in cc)
 is_haltable mark s (held.Doubt doubt) e h = record { out = (ap is_nothing_out h.0, h.1); answer = ap (halts s) h.0 }
 
 pub answers_halted : {L : Type 0} (old new : Core L) (now gone : Held) (reply : Reply) → now ≡ old.held
-    → gone ≡ held.Nothing → is_no_receipt now ≡ true → HandsOver (record old { held = gone }) (given_of now) reply new
+    → gone ≡ held.Nothing → receipt_of now ≡ None → HandsOver (record old { held = gone }) (given_of now) reply new
     → new.desk.waiting.mark ≡ old.desk.waiting.mark → new.desk.live ≡ old.desk.live
     → (turns.IsHeldOf old.desk.waiting (given_of now) → (new.held ≡ gone) × (new.desk.waiting.out ≡ None))
     → new.permits.items ≡ old.permits.items → new.tickets ≡ old.tickets
@@ -440,3 +434,9 @@ prop_rows = Coded-set (Prim.hlevel codes)
 pub all_given : {L : Type 0} (core : Core L) → IsCore core → IsPermutation core.permits.items core.desk.live
 all_given core is = subst (IsPermutation core.permits.items) (∥∥₁_elim is (prop_rows core.permits.items core.desk.live)
     (λ (h : HoldsAll core). h.permits)) (IsPermutation-refl core.permits.items)
+
+pub holds_receipt : (now : Held) (receipt : BatchValue) → receipt_of now ≡ Some receipt → now ≡ held.Receipt receipt
+holds_receipt held.Nothing receipt is = cc
+holds_receipt (held.Batch batch) receipt is = cc
+holds_receipt (held.Receipt one) receipt is = cc
+holds_receipt (held.Doubt doubt) receipt is = cc

@@ -107,16 +107,12 @@ impl<L: Ledger> Core<L> {
         ensures answers { CoreAnswers self.old (λ s. answer_to s on.Halt) result self.new }
         ensures room { TakesRoom 1 self.old self.new }
     {
-        match mem::replace(&mut self.held, Held::Nothing) {
-            Held::Nothing => self.hand_over(group_commit::Held::Nothing),
-            Held::Batch(batch) => self.hand_over(group_commit::Held::Batch(batch)),
-            Held::Doubt(doubt) => self.hand_over(group_commit::Held::Doubt(doubt)),
-            Held::Receipt(receipt) => {
-                let reply = self.hand_over(group_commit::Held::Nothing);
-                self.hold(Held::Receipt(receipt));
-                reply
-            }
+        let (receipt, given) = mem::replace(&mut self.held, Held::Nothing).parts();
+        let reply = self.hand_over(given);
+        if let Some(receipt) = receipt {
+            self.hold(Held::Receipt(receipt));
         }
+        reply
     }
 
     // Hands over what a committer that halts the desk held.

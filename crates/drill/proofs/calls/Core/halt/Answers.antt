@@ -1,34 +1,24 @@
-use Rattle.std.proofs.Common.{refl, ap}
+use Rattle.std.proofs.Common.{refl, sym, ap, ◌∙◌}
+use Rattle.drill.specs.Cores.{given_of}
 use Rattle.drill.specs.declared.held.Held.TheVariants as held
-use Rattle.drill.proofs.BatchLaws.{answers_halted, answers_not_halted}
+use Rattle.drill.proofs.BatchLaws.{answers_halted, answers_not_halted, holds_receipt}
 use Rattle.drill.proofs.calls.Core.halt.Goals as goal
 
-pub returns-in-Nothing-clause-answers : goal.returns-in-Nothing-clause-answers
-returns-in-Nothing-clause-answers g c =
-    answers_halted c.args.self.now c.hand_over.new.self _ _ c.hand_over.result c.in-Nothing.ensures.value
-    c.replace.ensures.after refl c.hand_over.ensures.halts c.hand_over.ensures.mark c.hand_over.ensures.live
-    c.hand_over.ensures.gone
-    (ap (λ r. r.permits.items) c.hand_over.ensures.same) (ap (λ r. r.tickets) c.hand_over.ensures.same)
+pub returns-in_default-clause-answers : goal.returns-in_default-clause-answers
+returns-in_default-clause-answers g c =
+    answers_halted c.args.self.now c.hand_over-reply.new.self c.replace.result _ c.hand_over-reply.result
+    c.replace.ensures.value c.replace.ensures.after (sym c.parts-receipt.ensures.receipt ∙ c.in_default.is)
+    (rw c.parts-receipt.ensures.given at c.hand_over-reply.ensures.halts) c.hand_over-reply.ensures.mark
+    c.hand_over-reply.ensures.live (rw c.parts-receipt.ensures.given at c.hand_over-reply.ensures.gone)
+    (ap (λ r. r.permits.items) c.hand_over-reply.ensures.same) (ap (λ r. r.tickets) c.hand_over-reply.ensures.same)
 
-pub returns-in-Batch-clause-answers : goal.returns-in-Batch-clause-answers
-returns-in-Batch-clause-answers g c =
-    answers_halted c.args.self.now c.hand_over-in-Batch.new.self _ _ c.hand_over-in-Batch.result
-    c.in-Batch.ensures.value c.replace.ensures.after refl c.hand_over-in-Batch.ensures.halts
-    c.hand_over-in-Batch.ensures.mark c.hand_over-in-Batch.ensures.live c.hand_over-in-Batch.ensures.gone
-    (ap (λ r. r.permits.items) c.hand_over-in-Batch.ensures.same)
-    (ap (λ r. r.tickets) c.hand_over-in-Batch.ensures.same)
-
-pub returns-in-Doubt-clause-answers : goal.returns-in-Doubt-clause-answers
-returns-in-Doubt-clause-answers g c =
-    answers_halted c.args.self.now c.hand_over-in-Doubt.new.self _ _ c.hand_over-in-Doubt.result
-    c.in-Doubt.ensures.value c.replace.ensures.after refl c.hand_over-in-Doubt.ensures.halts
-    c.hand_over-in-Doubt.ensures.mark c.hand_over-in-Doubt.ensures.live c.hand_over-in-Doubt.ensures.gone
-    (ap (λ r. r.permits.items) c.hand_over-in-Doubt.ensures.same)
-    (ap (λ r. r.tickets) c.hand_over-in-Doubt.ensures.same)
-
-pub returns-in-Receipt-clause-answers : goal.returns-in-Receipt-clause-answers
-returns-in-Receipt-clause-answers g c = rw c.hold.ensures
-    (answers_not_halted c.args.self.now c.hand_over-reply.new.self held.Nothing c.in-Receipt.receipt _
-    c.in-Receipt.ensures.value c.hand_over-reply.ensures.refused c.hand_over-reply.ensures.kept
+pub returns-in-Some-clause-answers : goal.returns-in-Some-clause-answers
+returns-in-Some-clause-answers g c =
+    let was = holds_receipt c.replace.result c.in-Some.receipt (sym c.parts-receipt.ensures.receipt ∙ c.in-Some.is) in
+    let given = c.parts-receipt.ensures.given ∙ ap given_of was in
+    rw c.hold.ensures
+    (answers_not_halted c.args.self.now c.hand_over-reply.new.self held.Nothing c.in-Some.receipt _
+    (sym was ∙ c.replace.ensures.value) (rw given at c.hand_over-reply.ensures.refused)
+    (rw given at c.hand_over-reply.ensures.kept)
     c.hand_over-reply.ensures.mark (ap (λ r. r.permits.items) c.hand_over-reply.ensures.same)
     (ap (λ r. r.tickets) c.hand_over-reply.ensures.same))
