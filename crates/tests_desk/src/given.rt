@@ -6,7 +6,7 @@ use relay_types::{Body, MaxLimit, Name, Secret, Secrets, Target};
 use retry_table::{PostResult, Status};
 use spool::Vault;
 use sqlite::{Connection, MemStore};
-use std::alloc::{AllocError, Global};
+use std::alloc::Global;
 use std::sync::Arc;
 use std::test::Fail;
 
@@ -30,7 +30,7 @@ pub(crate) fn secrets(alloc: Global, texts: &[&[u8]]) -> Result<Secrets, Fail> {
 
 pub(crate) fn body(alloc: Global, text: &[u8]) -> Result<Body, Fail> {
     let bytes = Vec::from_slice(alloc, text)?;
-    Ok(Body::of(Arc::new(alloc, bytes).map_err(AllocError::from)?)?)
+    Ok(Body::of(Arc::new(alloc, bytes)?)?)
 }
 
 pub(crate) fn put_command(

@@ -11,7 +11,7 @@ use relay_types::{Body, MAX_RECORDS, Moment, MsgId, Name, State};
 use spool::{Books, OpenFault, Vault};
 use sqlite::{Alter, Connection, MemStore};
 use sqlite_value::value::ValueRef;
-use std::alloc::{AllocError, Global};
+use std::alloc::Global;
 use std::marker::Brand;
 use std::process::Abort;
 use std::sync::Arc;
@@ -220,8 +220,7 @@ fn name_of(letter: u8) -> Result<Name, Fail> {
 
 fn body_of(alloc: Global, bytes: &[u8]) -> Result<Body, Fail> {
     let bytes = Vec::from_slice(alloc, bytes)?;
-    let shared = Arc::new(alloc, bytes).map_err(AllocError::from)?;
-    Ok(Body::of(shared)?)
+    Ok(Body::of(Arc::new(alloc, bytes)?)?)
 }
 
 /// How many records there are, whether endpoint `a` is enabled, and its event `msg_1`.

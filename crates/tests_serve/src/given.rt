@@ -5,7 +5,7 @@ use group_commit::WrongTurn;
 use relay_types::{Body, MaxLimit, Moment, MsgId, Name, Secret, Secrets, Target};
 use spool::{Batch, CommitEnd, Receipt, Vault};
 use sqlite::Alter;
-use std::alloc::{AllocError, AllocGlobal, Global};
+use std::alloc::{AllocGlobal, Global};
 use std::net::{Net, TcpListener, TcpStream};
 use std::process::Abort;
 use std::random::RandomSource;
@@ -68,7 +68,7 @@ pub(crate) fn id() -> Result<MsgId, Fail> {
 /// The body of the event.
 pub(crate) fn body(alloc: Global) -> Result<Body, Fail> {
     let bytes = Vec::from_slice(alloc, b"{}")?;
-    Ok(Body::of(Arc::new(alloc, bytes).map_err(AllocError::from)?)?)
+    Ok(Body::of(Arc::new(alloc, bytes)?)?)
 }
 
 /// Puts the endpoint at this URL.
