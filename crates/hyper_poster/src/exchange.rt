@@ -10,7 +10,7 @@ use futures::future::{Either, select};
 use http::{Request, Response, StatusCode};
 use http_body_util::Full;
 use hyper::body::Incoming;
-use hyper::client::conn::http1::handshake;
+use hyper::client::conn::http1::{ResponseFuture, handshake};
 use std::alloc::AllocGlobal;
 use std::hash::RandomState;
 use std::net::{HostAddrs, Net, SocketAddr};
@@ -35,6 +35,34 @@ where
 {
     let request = http_request(rt.alloc(), outgoing)?;
     let mut runtime = LocalRuntime::new(rt).map_err(Failure::before)?;
+    let Reached {
+        socket,
+        start,
+        deadline,
+    } = reach(rt, &mut runtime, resolver, outgoing, timeout)?;
+    let status = send(rt, &mut runtime, socket, request, deadline)?;
+    Ok((status, start.elapsed(rt).unwrap_or(timeout)))
+}
+
+// A connection to the subscriber, when it was asked for, and until when the exchange may last.
+#[derive(Drop)]
+struct Reached {
+    socket: TcpStream,
+    start: Instant,
+    deadline: Instant,
+}
+
+// Looks the subscriber up and connects to it.
+fn reach<R>(
+    rt: &R,
+    runtime: &mut LocalRuntime,
+    resolver: &Resolver<R>,
+    outgoing: &Outgoing,
+    timeout: Duration,
+) -> Result<Reached, Failure>
+where
+    R: Wait + Clock + Net + RandomSource + AllocGlobal + Copy,
+{
     let begun = Instant::now(rt).map_err(Failure::before)?;
     let Some(deadline) = begun.checked_add(timeout) else {
         return Err(Failure::Late);
@@ -44,9 +72,12 @@ where
     };
     let addresses = resolver.addresses(host, outgoing.port(), left(rt, deadline))?;
     let start = Instant::now(rt).map_err(Failure::before)?;
-    let socket = connect(rt, &mut runtime, addresses, deadline)?;
-    let status = send(rt, &mut runtime, socket, request, deadline)?;
-    Ok((status, start.elapsed(rt).unwrap_or(timeout)))
+    let socket = connect(rt, runtime, addresses, deadline)?;
+    Ok(Reached {
+        socket,
+        start,
+        deadline,
+    })
 }
 
 // What is left until the deadline.
@@ -123,11 +154,23 @@ where
     match runtime.block_on(rt, timed) {
         Ok(Ok(Either::Left((answered, _connection)))) => status_of(answered),
         // The connection ended first: its answer is there, or none comes.
-        Ok(Ok(Either::Right((_ended, answer)))) => match runtime.block_on(rt, answer) {
-            Ok(answered) => status_of(answered),
-            Err(_) => Err(Failure::Unreached),
-        },
+        Ok(Ok(Either::Right((_ended, answer)))) => status_after(rt, runtime, answer),
         Ok(Err(_elapsed)) => Err(Failure::Late),
+        Err(_) => Err(Failure::Unreached),
+    }
+}
+
+// The status of an answer whose connection has ended.
+fn status_after<R>(
+    rt: &R,
+    runtime: &mut LocalRuntime,
+    answer: ResponseFuture,
+) -> Result<StatusCode, Failure>
+where
+    R: Wait + Clock + Net + RandomSource + AllocGlobal,
+{
+    match runtime.block_on(rt, answer) {
+        Ok(answered) => status_of(answered),
         Err(_) => Err(Failure::Unreached),
     }
 }
