@@ -1,6 +1,7 @@
 //! Databases in memory, and what is asked of them.
 
-use sqlite::{Alter, Connection, MemStore};
+use sqlite::{Alter, Connection, Error, MemStore, Row};
+use sqlite_value::value::ValueRef;
 use std::alloc::Global;
 use std::process::Abort;
 use std::test::Fail;
@@ -12,12 +13,35 @@ pub(crate) fn holds(rt: &impl Abort, is: bool, place: usize) {
     assert!(rt; is, "step {place}");
 }
 
-fn same_number(rt: &impl Abort, found: i64, wanted: i64, sql: &str) {
-    assert!(rt; found == wanted, "{found} at {sql}");
+fn first_of(row: &Row) -> Option<i64> {
+    match row.get_ref(0) {
+        Ok(ValueRef::Int(number)) => Some(number),
+        _ => None,
+    }
 }
 
-fn number<S: Alter>(conn: &mut Connection<S>, sql: &str) -> Result<i64, Fail> {
-    Ok(conn.query_row(sql, &[])?.get(0)?)
+/// The number that the query gives, if it gives one.
+fn number<S: Alter>(conn: &mut Connection<S>, sql: &str) -> Result<Option<i64>, Error> {
+    let row = conn.query_row(sql, &[])?;
+    Ok(first_of(&row))
+}
+
+fn is_counted<S: Alter>(
+    rt: &impl Abort,
+    conn: &mut Connection<S>,
+    sql: &str,
+    wanted: i64,
+) -> Result<(), Error> {
+    match number(conn, sql)? {
+        Some(found) => assert!(rt; found == wanted, "{found} at {sql}"),
+        None => panic!(rt; "no number at {sql}"),
+    }
+    Ok(())
+}
+
+/// Runs the statements.
+pub(crate) fn run<S: Alter>(conn: &mut Connection<S>, sql: &str) -> Result<(), Error> {
+    conn.execute_batch(sql)
 }
 
 /// Whether each query gives its number.
@@ -27,7 +51,7 @@ pub(crate) fn count_all<S: Alter>(
     counts: &[Count],
 ) -> Result<(), Fail> {
     for (sql, wanted) in counts {
-        same_number(rt, number(conn, sql)?, *wanted, sql);
+        is_counted(rt, conn, sql, *wanted)?;
     }
     Ok(())
 }

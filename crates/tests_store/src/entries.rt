@@ -1,7 +1,9 @@
 //! Records as tables tell of them.
 
-use relay_types::{Body, MaxLimit, Moment, MsgId, Name, Record, Secret, Secrets, Target};
-use std::alloc::{AllocError, Global};
+use relay_types::{
+    Body, MaxLimit, Moment, MsgId, Name, ReadFault, Record, Secret, Secrets, Target,
+};
+use std::alloc::Global;
 use std::sync::Arc;
 use std::test::Fail;
 
@@ -42,15 +44,15 @@ fn secret(byte: u8) -> Result<Secret, Fail> {
     Ok(Secret::of(&[byte; 24])?)
 }
 
+fn first_of(all: &[Secret], count: usize) -> Result<Secrets, ReadFault> {
+    Secrets::of(all.get(..count).unwrap_or(all))
+}
+
 fn secrets(bytes: [u8; 4], count: usize) -> Result<Secrets, Fail> {
     let [one, two, three, four] = bytes;
-    let all = [secret(one)?, secret(two)?, secret(three)?, secret(four)?];
-    match count {
-        1 => Ok(Secrets::of(&all[..1])?),
-        2 => Ok(Secrets::of(&all[..2])?),
-        3 => Ok(Secrets::of(&all[..3])?),
-        _ => Ok(Secrets::of(&all)?),
-    }
+    let (one, two) = (secret(one)?, secret(two)?);
+    let (three, four) = (secret(three)?, secret(four)?);
+    Ok(first_of(&[one, two, three, four], count)?)
 }
 
 pub(crate) fn secrets_of(keys: Keys) -> Result<Secrets, Fail> {
@@ -65,8 +67,7 @@ pub(crate) fn secrets_of(keys: Keys) -> Result<Secrets, Fail> {
 
 pub(crate) fn body_of(alloc: Global, bytes: &[u8]) -> Result<Body, Fail> {
     let bytes = Vec::from_slice(alloc, bytes)?;
-    let shared = Arc::new(alloc, bytes).map_err(AllocError::from)?;
-    Ok(Body::of(shared)?)
+    Ok(Body::of(Arc::new(alloc, bytes)?)?)
 }
 
 pub(crate) fn put(alloc: Global, name: Name, max: u64, secrets: Secrets) -> Result<Record, Fail> {
@@ -92,7 +93,7 @@ pub(crate) fn accept(
     Ok(Record::Accept { name, id, body, at })
 }
 
-fn outcome(delivery: u64, attempt: u64, status: u16, at: u64) -> Result<Record, Fail> {
+pub(crate) fn outcome(delivery: u64, attempt: u64, status: u16, at: u64) -> Result<Record, Fail> {
     let at = Moment::of(at)?;
     Ok(Record::Outcome {
         delivery,
@@ -102,34 +103,45 @@ fn outcome(delivery: u64, attempt: u64, status: u16, at: u64) -> Result<Record, 
     })
 }
 
+fn endpoint(alloc: Global, letter: u8, max: u64, keys: Keys) -> Result<Record, Fail> {
+    put(alloc, name_of(letter)?, max, secrets_of(keys)?)
+}
+
+fn event(alloc: Global, letter: u8, id: &[u8], bytes: &[u8], at: u64) -> Result<Record, Fail> {
+    accept(alloc, name_of(letter)?, MsgId::read(id)?, bytes, at)
+}
+
 fn give(letter: u8, keys: Keys) -> Result<Record, Fail> {
-    Ok(Record::Secrets {
-        name: name_of(letter)?,
-        secrets: secrets_of(keys)?,
-    })
+    let (name, secrets) = (name_of(letter)?, secrets_of(keys)?);
+    Ok(Record::Secrets { name, secrets })
+}
+
+fn enable(letter: u8, flag: bool) -> Result<Record, Fail> {
+    let name = name_of(letter)?;
+    Ok(Record::Enabled { name, flag })
 }
 
 pub(crate) fn subscribed(topic: Name, name: Name, flag: bool) -> Record {
     Record::Subscribed { topic, name, flag }
 }
 
+fn subscribe(topic: &[u8], letter: u8, flag: bool) -> Result<Record, Fail> {
+    Ok(subscribed(Name::read(topic)?, name_of(letter)?, flag))
+}
+
+fn purge(before: u64) -> Result<Record, Fail> {
+    let before = Moment::of(before)?;
+    Ok(Record::Purge { before })
+}
+
 pub(crate) fn record_of(alloc: Global, entry: Entry) -> Result<Record, Fail> {
     match entry {
-        Entry::Put(letter, max, keys) => put(alloc, name_of(letter)?, max, secrets_of(keys)?),
+        Entry::Put(letter, max, keys) => endpoint(alloc, letter, max, keys),
         Entry::Give(letter, keys) => give(letter, keys),
-        Entry::Enable(letter, flag) => Ok(Record::Enabled {
-            name: name_of(letter)?,
-            flag,
-        }),
-        Entry::Accept(letter, id, body, at) => {
-            accept(alloc, name_of(letter)?, MsgId::read(id)?, body, at)
-        }
+        Entry::Enable(letter, flag) => enable(letter, flag),
+        Entry::Accept(letter, id, bytes, at) => event(alloc, letter, id, bytes, at),
         Entry::Outcome(delivery, attempt, status, at) => outcome(delivery, attempt, status, at),
-        Entry::Subscribe(topic, letter, flag) => {
-            Ok(subscribed(Name::read(topic)?, name_of(letter)?, flag))
-        }
-        Entry::Purge(before) => Ok(Record::Purge {
-            before: Moment::of(before)?,
-        }),
+        Entry::Subscribe(topic, letter, flag) => subscribe(topic, letter, flag),
+        Entry::Purge(before) => purge(before),
     }
 }

@@ -17,22 +17,17 @@ use std::test::Fail;
 /// How often a record is drawn for a history. One that may not follow is left out.
 const DRAWS: u32 = 120;
 
-/// The books of a history, the moments of its events and attempts, each beside its delivery, and the vault to which it
-/// is committed.
+/// The books of a history, and the moments of its events and attempts, each beside its delivery.
 #[derive(Drop)]
-struct Both<S: Alter> {
+struct Drawn {
     books: Books,
     moments: Vec<(u64, u64)>,
-    spool: Spool<S>,
 }
 
-fn begun<S: Alter + Drop>(alloc: Global, spool: Spool<S>) -> Result<Both<S>, Fail> {
+fn begun(alloc: Global) -> Result<Drawn, Fail> {
     let books = empty(alloc)?;
-    Ok(Both {
-        books,
-        moments: Vec::new(alloc),
-        spool,
-    })
+    let moments = Vec::new(alloc);
+    Ok(Drawn { books, moments })
 }
 
 fn note(moments: &mut Vec<(u64, u64)>, seq: u64, entry: Entry) -> Result<(), Fail> {
@@ -55,60 +50,78 @@ fn clock_of(book: &DeliveryBook, moments: &[(u64, u64)]) -> Result<Moment, Fail>
     Ok(Moment::of(greatest)?)
 }
 
+/// Takes in a record, and has it wait to be committed.
+fn add<S: Alter>(
+    rt: &impl Abort,
+    alloc: Global,
+    drawn: &mut Drawn,
+    spool: &mut Spool<S>,
+    entry: Entry,
+) -> Result<(), Fail> {
+    note(&mut drawn.moments, drawn.books.records, entry)?;
+    stage(rt, alloc, &mut drawn.books, entry)?;
+    spool.stage(rt, record_of(alloc, entry)?);
+    Ok(())
+}
+
 /// Draws a record, and commits what waits in one case of four. Whether it is written.
 fn go_on<S: Alter>(
     rt: &impl Abort,
     alloc: Global,
     numbers: &mut Numbers,
-    both: &mut Both<S>,
+    drawn: &mut Drawn,
+    spool: &mut Spool<S>,
 ) -> Result<bool, Fail> {
-    if let Some(entry) = draw(numbers, &both.books)? {
-        note(&mut both.moments, both.books.records, entry)?;
-        stage(rt, alloc, &mut both.books, entry)?;
-        both.spool.stage(rt, record_of(alloc, entry)?);
+    if let Some(entry) = draw(numbers, &drawn.books)? {
+        add(rt, alloc, drawn, spool, entry)?;
     }
-    Ok(numbers.below(4) > 0 || both.spool.is_written())
+    Ok(numbers.below(4) > 0 || spool.is_written())
 }
 
 fn draw_all<S: Alter>(
     rt: &impl Abort,
     alloc: Global,
     first: u64,
-    both: &mut Both<S>,
+    drawn: &mut Drawn,
+    spool: &mut Spool<S>,
 ) -> Result<bool, Fail> {
     let mut numbers = Numbers { last: first };
     let mut is_written = true;
     for _ in 0..DRAWS {
-        is_written = go_on(rt, alloc, &mut numbers, both)? && is_written;
+        is_written = go_on(rt, alloc, &mut numbers, drawn, spool)? && is_written;
     }
-    Ok(both.spool.is_written() && is_written)
+    Ok(spool.is_written() && is_written)
 }
 
-fn is_same<S: Alter>(alloc: Global, both: &mut Both<S>) -> Result<bool, Fail> {
-    both.books.clock = clock_of(&both.books.deliveries, &both.moments)?;
-    let loaded = both.spool.books(alloc)?;
-    same_books(&both.books, &loaded)
+fn is_same<S: Alter>(alloc: Global, drawn: &mut Drawn, spool: &mut Spool<S>) -> Result<bool, Fail> {
+    drawn.books.clock = clock_of(&drawn.books.deliveries, &drawn.moments)?;
+    let loaded = spool.books(alloc)?;
+    same_books(&drawn.books, &loaded)
 }
 
-/// Whether a history that is drawn from this number is loaded as it was staged.
-fn is_loaded<S: Alter + Drop>(
+fn is_drawn<S: Alter>(
     rt: &impl Abort,
     alloc: Global,
     first: u64,
-    spool: Spool<S>,
+    spool: &mut Spool<S>,
 ) -> Result<bool, Fail> {
-    let mut both = begun(alloc, spool)?;
-    match draw_all(rt, alloc, first, &mut both) {
-        Ok(true) => is_same(alloc, &mut both),
+    let mut drawn = begun(alloc)?;
+    match draw_all(rt, alloc, first, &mut drawn, spool) {
+        Ok(true) => is_same(alloc, &mut drawn, spool),
         told => told,
     }
+}
+
+/// Whether a history that is drawn from this number is loaded as it was staged.
+fn is_loaded(rt: &impl Abort, alloc: Global, first: u64) -> Result<bool, Fail> {
+    let mut spool = Spool::new(rt, alloc, None)?;
+    is_drawn(rt, alloc, first, &mut spool)
 }
 
 #[test]
 fn two_hundred_histories_are_loaded(rt: HostRuntime) -> Result<(), Fail> {
     for first in 0..200usize {
-        let spool = Spool::new(rt.alloc(), None)?;
-        holds(&rt, is_loaded(&rt, rt.alloc(), first as u64, spool)?, first);
+        holds(&rt, is_loaded(&rt, rt.alloc(), first as u64)?, first);
     }
     Ok(())
 }

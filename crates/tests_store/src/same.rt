@@ -11,13 +11,21 @@ use std::test::Fail;
 /// Whether all answers of the books are the same that concern the drawn names and ids, and the
 /// numbers up to that of the next record.
 pub(crate) fn same_books(one: &Books, other: &Books) -> Result<bool, Fail> {
-    let is_same = one.records == other.records
+    let have_names = same_names(one, other)?;
+    let have_topics = same_topics(&one.endpoints, &other.endpoints)?;
+    Ok(have_names && have_topics && same_counters(one, other) && same_rows(one, other))
+}
+
+fn same_counters(one: &Books, other: &Books) -> bool {
+    one.records == other.records
         && one.clock == other.clock
         && same_lengths(&one.endpoints, &other.endpoints)
-        && same_order(one.endpoints.names(), other.endpoints.names())
         && same_totals(&one.deliveries, &other.deliveries)
-        && same_numbers(&one.deliveries, &other.deliveries, one.records);
-    Ok(same_names(one, other)? && same_topics(&one.endpoints, &other.endpoints)? && is_same)
+}
+
+fn same_rows(one: &Books, other: &Books) -> bool {
+    same_order(one.endpoints.names(), other.endpoints.names())
+        && same_numbers(&one.deliveries, &other.deliveries, one.records)
 }
 
 fn same_lengths(one: &EndpointBook, other: &EndpointBook) -> bool {

@@ -1,11 +1,12 @@
 //! Books in which the records of a history are staged and settled one by one.
+ghost use Rattle.std.specs.Prelude.{◌<◌, ◌≤◌};
 
-use crate::entries::{Entry, URL, body_of, name_of, secrets_of};
+use crate::entries::{Entry, Keys, URL, body_of, name_of, secrets_of};
 use delivery_book::DeliveryBook;
 use endpoint_book::EndpointBook;
-use relay_types::{MaxLimit, Moment, MsgId, Name, Secrets, Target};
+use relay_types::{Body, MaxLimit, Moment, MsgId, Name, Secrets, Target};
 use spool::Books;
-use std::alloc::Global;
+use std::alloc::{AllocError, Global};
 use std::process::Abort;
 use std::test::Fail;
 
@@ -20,41 +21,59 @@ pub(crate) fn empty(alloc: Global) -> Result<Books, Fail> {
     })
 }
 
+/// The next record of the endpoints may have this number.
+fn is_next(rt: &impl Abort, book: &EndpointBook, seq: u64)
+    ensures room { seq < 1_000_000 }
+    ensures above { book.now.next_seq ≤ seq }
+{
+    assert!(rt; seq < 1_000_000 && book.next_seq() <= seq);
+}
+
 fn put(
     rt: &impl Abort,
     alloc: Global,
     book: &mut EndpointBook,
     seq: u64,
-    name: Name,
+    letter: u8,
     max: u64,
-    secrets: Secrets,
+    keys: Keys,
 ) -> Result<(), Fail> {
-    let max = MaxLimit::of(max)?;
-    assert!(rt; seq < 1_000_000 && book.next_seq() <= seq && !book.contains(name));
-    book.stage_put(seq, name, Target::read(alloc, URL)?, max, secrets)?;
-    Ok(())
+    let (name, max, secrets) = (name_of(letter)?, MaxLimit::of(max)?, secrets_of(keys)?);
+    let target = Target::read(alloc, URL)?;
+    is_next(rt, book, seq);
+    assert!(rt; !book.contains(name));
+    Ok(book.stage_put(seq, name, target, max, secrets)?)
 }
 
 fn give(
     rt: &impl Abort,
     book: &mut EndpointBook,
     seq: u64,
-    name: Name,
-    secrets: Secrets,
+    letter: u8,
+    keys: Keys,
 ) -> Result<(), Fail> {
-    assert!(rt; seq < 1_000_000 && book.next_seq() <= seq && book.contains(name));
-    book.stage_secrets(seq, name, secrets)?;
+    let (name, secrets) = (name_of(letter)?, secrets_of(keys)?);
+    is_next(rt, book, seq);
+    assert!(rt; book.contains(name));
+    Ok(book.stage_secrets(seq, name, secrets)?)
+}
+
+fn enable(
+    rt: &impl Abort,
+    book: &mut EndpointBook,
+    seq: u64,
+    letter: u8,
+    flag: bool,
+) -> Result<(), Fail> {
+    let name = name_of(letter)?;
+    is_next(rt, book, seq);
+    assert!(rt; book.contains(name) && book.free_flags() > 0);
+    book.stage_enabled(seq, name, flag);
     Ok(())
 }
 
-fn enable(rt: &impl Abort, book: &mut EndpointBook, seq: u64, name: Name, flag: bool) {
-    assert!(rt; seq < 1_000_000 && book.next_seq() <= seq);
-    assert!(rt; book.contains(name) && book.free_flags() > 0);
-    book.stage_enabled(seq, name, flag);
-}
-
 fn disable(rt: &impl Abort, book: &mut EndpointBook, seq: u64, name: Name) {
-    assert!(rt; seq < 1_000_000 && book.next_seq() <= seq);
+    is_next(rt, book, seq);
     assert!(rt; book.contains(name) && book.free_flags() > 0);
     book.stage_gone(seq, name);
 }
@@ -63,29 +82,36 @@ fn subscribe(
     rt: &impl Abort,
     book: &mut EndpointBook,
     seq: u64,
-    topic: Name,
-    name: Name,
+    topic: &[u8],
+    letter: u8,
     flag: bool,
 ) -> Result<(), Fail> {
-    assert!(rt; seq < 1_000_000 && book.next_seq() <= seq && book.contains(name));
-    assert!(rt; book.free_subscriptions() > 0);
-    book.stage_subscribed(seq, topic, name, flag)?;
-    Ok(())
+    let (topic, name) = (Name::read(topic)?, name_of(letter)?);
+    is_next(rt, book, seq);
+    assert!(rt; book.contains(name) && book.free_subscriptions() > 0);
+    Ok(book.stage_subscribed(seq, topic, name, flag)?)
+}
+
+/// The next record of the deliveries may have this number.
+fn may_follow(rt: &impl Abort, book: &DeliveryBook, seq: u64)
+    ensures room { seq < 1_000_000 }
+    ensures above { book.now.next_seq ≤ seq }
+{
+    assert!(rt; seq < 1_000_000 && book.next_seq() <= seq);
 }
 
 fn take_in(
     rt: &impl Abort,
-    alloc: Global,
     book: &mut DeliveryBook,
     seq: u64,
     name: Name,
     id: MsgId,
-    bytes: &[u8],
+    body: Body,
     at: Moment,
-) -> Result<(), Fail> {
-    assert!(rt; seq < 1_000_000 && book.next_seq() <= seq && book.find(name, &id).is_none());
-    book.stage_accept(seq, name, id, body_of(alloc, bytes)?, at)?;
-    Ok(())
+) -> Result<(), AllocError> {
+    may_follow(rt, book, seq);
+    assert!(rt; book.find(name, &id).is_none());
+    book.stage_accept(seq, name, id, body, at)
 }
 
 fn end(rt: &impl Abort, book: &mut DeliveryBook, seq: u64, delivery: u64, status: u16, at: Moment) {
@@ -93,9 +119,11 @@ fn end(rt: &impl Abort, book: &mut DeliveryBook, seq: u64, delivery: u64, status
     book.stage_outcome(seq, delivery, status, at);
 }
 
-fn purge(rt: &impl Abort, book: &mut DeliveryBook, seq: u64, before: Moment) {
+fn purge(rt: &impl Abort, book: &mut DeliveryBook, seq: u64, before: u64) -> Result<(), Fail> {
+    let before = Moment::of(before)?;
     assert!(rt; seq < 1_000_000 && book.next_seq() <= seq);
     book.stage_purge(seq, before);
+    Ok(())
 }
 
 fn endpoint_of(book: &DeliveryBook, delivery: u64) -> Result<Name, Fail> {
@@ -116,16 +144,8 @@ fn accept(
 ) -> Result<(), Fail> {
     let at = Moment::of(at)?;
     let (name, id) = (name_of(letter)?, MsgId::read(id)?);
-    take_in(
-        rt,
-        alloc,
-        &mut books.deliveries,
-        books.records,
-        name,
-        id,
-        bytes,
-        at,
-    )?;
+    let body = body_of(alloc, bytes)?;
+    take_in(rt, &mut books.deliveries, books.records, name, id, body, at)?;
     books.clock = books.clock.max(at);
     Ok(())
 }
@@ -158,32 +178,16 @@ fn enter(rt: &impl Abort, alloc: Global, books: &mut Books, entry: Entry) -> Res
     let seq = books.records;
     match entry {
         Entry::Put(letter, max, keys) => {
-            let (name, secrets) = (name_of(letter)?, secrets_of(keys)?);
-            put(rt, alloc, &mut books.endpoints, seq, name, max, secrets)
+            put(rt, alloc, &mut books.endpoints, seq, letter, max, keys)
         }
-        Entry::Give(letter, keys) => {
-            give(
-                rt,
-                &mut books.endpoints,
-                seq,
-                name_of(letter)?,
-                secrets_of(keys)?,
-            )
-        }
-        Entry::Enable(letter, flag) => {
-            enable(rt, &mut books.endpoints, seq, name_of(letter)?, flag);
-            Ok(())
-        }
+        Entry::Give(letter, keys) => give(rt, &mut books.endpoints, seq, letter, keys),
+        Entry::Enable(letter, flag) => enable(rt, &mut books.endpoints, seq, letter, flag),
         Entry::Accept(letter, id, bytes, at) => accept(rt, alloc, books, letter, id, bytes, at),
         Entry::Outcome(delivery, _, status, at) => outcome(rt, books, delivery, status, at),
         Entry::Subscribe(topic, letter, flag) => {
-            let (topic, name) = (Name::read(topic)?, name_of(letter)?);
-            subscribe(rt, &mut books.endpoints, seq, topic, name, flag)
+            subscribe(rt, &mut books.endpoints, seq, topic, letter, flag)
         }
-        Entry::Purge(before) => {
-            purge(rt, &mut books.deliveries, seq, Moment::of(before)?);
-            Ok(())
-        }
+        Entry::Purge(before) => purge(rt, &mut books.deliveries, seq, before),
     }
 }
 

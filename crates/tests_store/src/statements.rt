@@ -68,17 +68,25 @@ fn seq(number: u32) -> Seq {
     Seq::of(u64::from(number))
 }
 
+/// Whether a call added or changed what it says.
+type Made = Result<bool, Error>;
+
+fn done(answer: Result<(), Error>) -> Made {
+    answer?;
+    Ok(true)
+}
+
 fn add_endpoint<S: Alter>(
     alloc: Global,
     tx: &mut Transaction<'_, S>,
     put: u32,
     name: &[u8],
     max: u64,
-) -> Result<Result<(), Error>, Fail> {
+) -> Result<Made, Fail> {
     let name = Name::read(name)?;
     let max = MaxLimit::of(max)?;
     let target = Target::read(alloc, b"http://h/")?;
-    Ok(insert_endpoint(tx, seq(put), &name, &target, max))
+    Ok(done(insert_endpoint(tx, seq(put), &name, &target, max)))
 }
 
 fn add_secret<S: Alter>(
@@ -86,9 +94,9 @@ fn add_secret<S: Alter>(
     endpoint: u32,
     place: u32,
     bytes: &[u8],
-) -> Result<Result<(), Error>, Fail> {
+) -> Result<Made, Fail> {
     let secret = Secret::of(bytes)?;
-    Ok(insert_secret(tx, seq(endpoint), u64::from(place), &secret))
+    Ok(done(insert_secret(tx, seq(endpoint), u64::from(place), &secret)))
 }
 
 fn add_delivery<S: Alter>(
@@ -98,7 +106,7 @@ fn add_delivery<S: Alter>(
     endpoint: u32,
     id: &[u8],
     at: u64,
-) -> Result<Result<bool, Error>, Fail> {
+) -> Result<Made, Fail> {
     let id = MsgId::read(id)?;
     let at = Moment::of(at)?;
     let body = body_of(alloc, b"hello")?;
@@ -112,16 +120,16 @@ fn add_attempt<S: Alter>(
     attempt: u32,
     status: u16,
     at: u64,
-) -> Result<Result<(), Error>, Fail> {
+) -> Result<Made, Fail> {
     let at = Moment::of(at)?;
-    Ok(insert_attempt(
+    Ok(done(insert_attempt(
         tx,
         seq(number),
         seq(delivery),
         u64::from(attempt),
         status,
         at,
-    ))
+    )))
 }
 
 fn add_topic<S: Alter>(
@@ -130,57 +138,70 @@ fn add_topic<S: Alter>(
     endpoint: u32,
     flag: bool,
     set_by: u32,
-) -> Result<Result<(), Error>, Fail> {
+) -> Result<Made, Fail> {
     let topic = Name::read(topic)?;
-    Ok(insert_topic(tx, &topic, seq(endpoint), flag, seq(set_by)))
+    Ok(done(insert_topic(tx, &topic, seq(endpoint), flag, seq(set_by))))
 }
 
 fn remove_topic<S: Alter>(
     tx: &mut Transaction<'_, S>,
     topic: &[u8],
     endpoint: u32,
-) -> Result<Result<(), Error>, Fail> {
+) -> Result<Made, Fail> {
     let topic = Name::read(topic)?;
-    Ok(delete_topic(tx, &topic, seq(endpoint)))
+    Ok(done(delete_topic(tx, &topic, seq(endpoint))))
 }
 
-fn done(answer: Result<(), Error>) -> Result<bool, Error> {
-    answer?;
-    Ok(true)
-}
-
-/// Whether the call added or changed what it says.
-fn make<S: Alter>(
-    alloc: Global,
-    tx: &mut Transaction<'_, S>,
-    call: Call,
-) -> Result<Result<bool, Error>, Fail> {
+fn make<S: Alter>(alloc: Global, tx: &mut Transaction<'_, S>, call: Call) -> Result<Made, Fail> {
     match call {
         Call::Tables => Ok(done(create_tables(tx))),
         Call::Topics => Ok(done(create_topics(tx))),
         Call::Version => Ok(done(update_version(tx))),
-        Call::Endpoint(put, name, max) => Ok(done(add_endpoint(alloc, tx, put, name, max)?)),
-        Call::Secret(endpoint, place, bytes) => Ok(done(add_secret(tx, endpoint, place, bytes)?)),
+        Call::Endpoint(put, name, max) => add_endpoint(alloc, tx, put, name, max),
+        Call::Secret(endpoint, place, bytes) => add_secret(tx, endpoint, place, bytes),
         Call::Delivery(number, endpoint, id, at) => {
             add_delivery(alloc, tx, number, endpoint, id, at)
         }
         Call::Attempt(number, delivery, attempt, status, at) => {
-            Ok(done(add_attempt(tx, number, delivery, attempt, status, at)?))
+            add_attempt(tx, number, delivery, attempt, status, at)
         }
-        Call::Topic(topic, endpoint, flag, set_by) => {
-            Ok(done(add_topic(tx, topic, endpoint, flag, set_by)?))
-        }
-        Call::NoTopic(topic, endpoint) => Ok(done(remove_topic(tx, topic, endpoint)?)),
+        Call::Topic(topic, endpoint, flag, set_by) => add_topic(tx, topic, endpoint, flag, set_by),
+        Call::NoTopic(topic, endpoint) => remove_topic(tx, topic, endpoint),
         Call::NoAttempts(delivery) => Ok(done(delete_attempts(tx, seq(delivery)))),
         Call::NoDelivery(delivery) => Ok(done(delete_delivery(tx, seq(delivery)))),
         Call::Records(count) => Ok(done(update_records(tx, u64::from(count)))),
     }
 }
 
-fn is_refused(answer: Result<bool, Error>) -> bool {
-    match answer {
-        Err(error) => cause_of(error) == Cause::Other,
-        Ok(_) => false,
+/// Whether the call is made, and answers this.
+fn answers<S: Alter>(
+    alloc: Global,
+    tx: &mut Transaction<'_, S>,
+    call: Call,
+    wanted: bool,
+) -> Result<bool, Fail> {
+    match make(alloc, tx, call)? {
+        Ok(answer) => Ok(answer == wanted),
+        Err(_) => Ok(false),
+    }
+}
+
+fn is_refused<S: Alter>(
+    alloc: Global,
+    tx: &mut Transaction<'_, S>,
+    call: Call,
+) -> Result<bool, Fail> {
+    match make(alloc, tx, call)? {
+        Err(error) => Ok(cause_of(error) == Cause::Other),
+        Ok(_) => Ok(false),
+    }
+}
+
+fn same_put(found: Option<Seq>, wanted: Option<u32>) -> bool {
+    match (found, wanted) {
+        (Some(found), Some(put)) => found.get() == u64::from(put),
+        (None, None) => true,
+        _ => false,
     }
 }
 
@@ -190,11 +211,7 @@ fn is_put<S: Alter>(
     wanted: Option<u32>,
 ) -> Result<bool, Fail> {
     let name = Name::read(name)?;
-    match (select_put(tx, &name)?, wanted) {
-        (Some(found), Some(put)) => Ok(found.get() == u64::from(put)),
-        (None, None) => Ok(true),
-        _ => Ok(false),
-    }
+    Ok(same_put(select_put(tx, &name)?, wanted))
 }
 
 fn is_there<S: Alter>(
@@ -215,6 +232,15 @@ fn same_seqs(found: &[Seq], wanted: &[u64]) -> bool {
     is_same
 }
 
+/// Whether these are the first events with numbers from this on.
+fn are_events<S: Alter>(
+    tx: &mut Transaction<'_, S>,
+    from: u32,
+    wanted: &[u64],
+) -> Result<bool, Fail> {
+    Ok(same_seqs(&select_events(tx, seq(from))?, wanted))
+}
+
 fn is_tried(tried: &Tried, delivery: u64, status: u16, at: u64) -> bool {
     tried.delivery.get() == delivery && tried.status == status && tried.at.seconds() == at
 }
@@ -225,6 +251,15 @@ fn same_tries(found: &[Tried], wanted: &[(u64, u16, u64)]) -> bool {
         is_same = is_same && is_tried(tried, *delivery, *status, *at);
     }
     is_same
+}
+
+fn are_tries<S: Alter>(
+    tx: &mut Transaction<'_, S>,
+    first: u32,
+    last: u32,
+    wanted: &[(u64, u16, u64)],
+) -> Result<bool, Fail> {
+    Ok(same_tries(&select_tries(tx, seq(first), seq(last))?, wanted))
 }
 
 fn add_all<S: Alter>(
@@ -243,30 +278,36 @@ fn add_all<S: Alter>(
     Ok(is_done)
 }
 
-fn is_page(found: &[Seq], count: usize, first: u64, last: u64) -> bool {
+fn has_ends(found: &[Seq], count: usize, first: u64, last: u64) -> bool {
     match (found.first(), found.last()) {
         (Some(one), Some(end)) => found.len() == count && one.get() == first && end.get() == last,
         _ => count == 0,
     }
 }
 
+fn is_page<S: Alter>(
+    tx: &mut Transaction<'_, S>,
+    from: u32,
+    count: usize,
+    first: u64,
+    last: u64,
+) -> Result<bool, Fail> {
+    Ok(has_ends(&select_events(tx, seq(from))?, count, first, last))
+}
+
 fn is_so<S: Alter>(alloc: Global, tx: &mut Transaction<'_, S>, step: Step) -> Result<bool, Fail> {
     match step {
-        Step::Done(made) => Ok(make(alloc, tx, made)? == Ok(true)),
-        Step::Known(made) => Ok(make(alloc, tx, made)? == Ok(false)),
-        Step::Refused(made) => Ok(is_refused(make(alloc, tx, made)?)),
+        Step::Done(call) => answers(alloc, tx, call, true),
+        Step::Known(call) => answers(alloc, tx, call, false),
+        Step::Refused(call) => is_refused(alloc, tx, call),
         Step::Put(name, wanted) => is_put(tx, name, wanted),
         Step::Endpoints(count) => Ok(count_endpoints(tx)? == count),
         Step::HasTopic(topic, endpoint, wanted) => is_there(tx, topic, endpoint, wanted),
         Step::TopicCount(count) => Ok(count_topics(tx)? == count),
-        Step::Events(from, wanted) => Ok(same_seqs(&select_events(tx, seq(from))?, wanted)),
-        Step::Tries(first, last, wanted) => {
-            Ok(same_tries(&select_tries(tx, seq(first), seq(last))?, wanted))
-        }
+        Step::Events(from, wanted) => are_events(tx, from, wanted),
+        Step::Tries(first, last, wanted) => are_tries(tx, first, last, wanted),
         Step::Add(endpoint, first, end) => add_all(alloc, tx, endpoint, first, end),
-        Step::Page(from, count, first, last) => {
-            Ok(is_page(&select_events(tx, seq(from))?, count, first, last))
-        }
+        Step::Page(from, count, first, last) => is_page(tx, from, count, first, last),
     }
 }
 
@@ -301,7 +342,7 @@ fn take_within<S: Alter>(
     }
 }
 
-fn answers<S: Alter>(conn: &mut Connection<S>) -> bool {
+fn is_probed<S: Alter>(conn: &mut Connection<S>) -> bool {
     conn.is_autocommit() && probe(conn).is_ok()
 }
 
@@ -316,8 +357,8 @@ fn look<S: Alter>(
     take_within(rt, alloc, conn, &FILLED, true)?;
     holds(rt, !is_empty(conn), 1);
     take_within(rt, alloc, conn, steps, false)?;
-    holds(rt, answers(conn), 2);
-    holds(rt, answers(conn), 3);
+    holds(rt, is_probed(conn), 2);
+    holds(rt, is_probed(conn), 3);
     count_all(rt, conn, counts)
 }
 

@@ -3,8 +3,8 @@
 use crate::database::{Count, count_all, holds};
 use crate::entries::{Entry, Keys, name_of};
 use crate::vaults::{
-    Moments, Span, Spool, Told, end_all, id_of, put_all, same_told, subscribe_all, take_in,
-    take_next, take_together, take_turn, topic_of,
+    Each, Moments, Span, Spool, Told, enter_each, id_of, numbered, put_all, same_told, take_next,
+    take_together, take_turn,
 };
 use delivery_book::DeliveryBook;
 use endpoint_book::EndpointBook;
@@ -115,12 +115,23 @@ fn are_attempted(alloc: Global, book: &DeliveryBook, count: u64) -> Result<bool,
     Ok(is_so)
 }
 
-fn has_topic(book: &EndpointBook, topic: Name, name: Name, wanted: Option<bool>) -> bool {
-    book.is_named(topic, name) == wanted.is_some()
-        && book.is_subscribed(topic, name) == wanted.unwrap_or(false)
+fn is_enabled(book: &EndpointBook, letter: u8, flag: bool) -> Result<bool, Fail> {
+    Ok(book.is_enabled(name_of(letter)?) == flag)
 }
 
-fn are_subscribers(book: &EndpointBook, topic: Name, letters: &[u8]) -> bool {
+fn has_topic(
+    book: &EndpointBook,
+    topic: &[u8],
+    letter: u8,
+    wanted: Option<bool>,
+) -> Result<bool, Fail> {
+    let (topic, name) = (Name::read(topic)?, name_of(letter)?);
+    let is_named = book.is_named(topic, name) == wanted.is_some();
+    Ok(is_named && book.is_subscribed(topic, name) == wanted.unwrap_or(false))
+}
+
+fn are_subscribers(book: &EndpointBook, topic: &[u8], letters: &[u8]) -> Result<bool, Fail> {
+    let topic = Name::read(topic)?;
     let mut found = book.subscribers(topic);
     let mut all = true;
     for letter in letters {
@@ -129,14 +140,14 @@ fn are_subscribers(book: &EndpointBook, topic: Name, letters: &[u8]) -> bool {
             None => false,
         };
     }
-    all && found.next().is_none()
+    Ok(all && found.next().is_none())
 }
 
 fn are_subscribed(alloc: Global, book: &EndpointBook, count: u64) -> Result<bool, Fail> {
     let name = name_of(b'a')?;
     let mut is_so = true;
     for number in 0..count {
-        is_so = book.is_subscribed(topic_of(alloc, number)?, name) && is_so;
+        is_so = book.is_subscribed(numbered(alloc, 't', number)?, name) && is_so;
     }
     Ok(is_so)
 }
@@ -146,30 +157,33 @@ fn finds(book: &DeliveryBook, letter: u8, id: &[u8], wanted: Option<u64>) -> Res
     Ok(book.find(name, &id) == wanted && book.find_settled(name, &id) == wanted)
 }
 
+fn holds_so(books: &Books, records: u64, clock: u64, len: usize) -> bool {
+    books.records == records
+        && books.clock.seconds() == clock
+        && books.endpoints.settled_len() == len
+}
+
+fn has_settled(book: &DeliveryBook, pending: u64, delivered: u64) -> bool {
+    let counts = book.settled_counts_all();
+    counts.pending == pending && counts.delivered == delivered
+}
+
 fn sees(alloc: Global, books: &Books, look: Look) -> Result<bool, Fail> {
     match look {
-        Look::Holds(records, clock, len) => Ok(
-            books.records == records
-                && books.clock.seconds() == clock
-                && books.endpoints.settled_len() == len,
-        ),
+        Look::Holds(records, clock, len) => Ok(holds_so(books, records, clock, len)),
         Look::Event(_, _, _, _, _) => Ok(tells(&books.deliveries, look)),
         Look::NoEvent(delivery) => Ok(books.deliveries.settled(delivery).is_none()),
         Look::Find(letter, id, wanted) => finds(&books.deliveries, letter, id, wanted),
-        Look::IsEnabled(letter, flag) => Ok(books.endpoints.is_enabled(name_of(letter)?) == flag),
+        Look::IsEnabled(letter, flag) => is_enabled(&books.endpoints, letter, flag),
         Look::Settled(pending, delivered) => {
-            let counts = books.deliveries.settled_counts_all();
-            Ok(counts.pending == pending && counts.delivered == delivered)
+            Ok(has_settled(&books.deliveries, pending, delivered))
         }
         Look::Pending(count) => Ok(books.deliveries.pending_all() == count),
         Look::Attempted(count) => are_attempted(alloc, &books.deliveries, count),
         Look::HasTopic(topic, letter, wanted) => {
-            let (topic, name) = (Name::read(topic)?, name_of(letter)?);
-            Ok(has_topic(&books.endpoints, topic, name, wanted))
+            has_topic(&books.endpoints, topic, letter, wanted)
         }
-        Look::Subscribers(topic, letters) => {
-            Ok(are_subscribers(&books.endpoints, Name::read(topic)?, letters))
-        }
+        Look::Subscribers(topic, letters) => are_subscribers(&books.endpoints, topic, letters),
         Look::FreeTopics(count) => Ok(books.endpoints.free_subscriptions() == count),
         Look::Subscribed(count) => are_subscribed(alloc, &books.endpoints, count),
     }
@@ -187,20 +201,32 @@ fn shows<S: Alter>(
     alloc: Global,
     spool: &mut Spool<S>,
     looks: &[Look],
-) -> Result<bool, Fail> {
+) -> Result<(), Fail> {
     let books = spool.books(alloc)?;
-    match sees_all(rt, alloc, &books, looks) {
-        Ok(()) => Ok(true),
-        Err(fail) => Err(fail),
+    sees_all(rt, alloc, &books, looks)
+}
+
+fn is_ok(told: Result<(), Fail>) -> Result<bool, Fail> {
+    told?;
+    Ok(true)
+}
+
+fn is_fault(found: LoadFault, fault: Fault) -> bool {
+    match fault {
+        Fault::Closed => matches!(found, LoadFault::Closed),
+        Fault::Store => matches!(found, LoadFault::Store(_)),
     }
 }
 
 fn is_not_loaded<S: Alter>(alloc: Global, spool: &mut Spool<S>, fault: Fault) -> bool {
-    match (spool.vault.load(alloc), fault) {
-        (Err(LoadFault::Closed), Fault::Closed) => true,
-        (Err(LoadFault::Store(_)), Fault::Store) => true,
-        _ => false,
+    match spool.load(alloc) {
+        Ok(_) => false,
+        Err(found) => is_fault(found, fault),
     }
+}
+
+fn is_told(told: Result<Told, Fail>, wanted: Told) -> Result<bool, Fail> {
+    Ok(same_told(told?, wanted))
 }
 
 fn take<S: Alter>(
@@ -211,21 +237,21 @@ fn take<S: Alter>(
 ) -> Result<bool, Fail> {
     match step {
         Step::Turn(mark, from, entry, wanted) => {
-            Ok(same_told(take_turn(alloc, spool, mark, from, entry)?, wanted))
+            is_told(take_turn(alloc, spool, mark, from, entry), wanted)
         }
-        Step::Enter(entry, wanted) => Ok(same_told(take_next(alloc, spool, entry)?, wanted)),
+        Step::Enter(entry, wanted) => is_told(take_next(alloc, spool, entry), wanted),
         Step::Together(entries, wanted) => {
-            Ok(same_told(take_together(rt, alloc, spool, entries)?, wanted))
+            is_told(take_together(rt, alloc, spool, entries), wanted)
         }
-        Step::Puts(count, keys, wanted) => {
-            Ok(same_told(put_all(alloc, spool, count, keys)?, wanted))
+        Step::Puts(count, keys, wanted) => is_told(put_all(alloc, spool, count, keys), wanted),
+        Step::Events(span, moments) => enter_each(rt, alloc, spool, span, Each::Event(moments)),
+        Step::Ends(span, status, moments) => {
+            enter_each(rt, alloc, spool, span, Each::End(status, moments))
         }
-        Step::Events(span, moments) => take_in(rt, alloc, spool, span, moments),
-        Step::Ends(span, status, moments) => end_all(rt, alloc, spool, span, status, moments),
-        Step::Topics(span) => subscribe_all(rt, alloc, spool, span),
+        Step::Topics(span) => enter_each(rt, alloc, spool, span, Each::Topic),
         Step::Next(number) => Ok(spool.vault.next() == number),
         Step::IsClosed(flag) => Ok(spool.vault.is_closed() == flag),
-        Step::Shows(looks) => shows(rt, alloc, spool, looks),
+        Step::Shows(looks) => is_ok(shows(rt, alloc, spool, looks)),
         Step::IsNotLoaded(fault) => Ok(is_not_loaded(alloc, spool, fault)),
     }
 }
@@ -244,7 +270,7 @@ fn take_all<S: Alter>(
 
 /// Takes the steps in turn on a new vault.
 pub(crate) fn walk(rt: &impl Abort, alloc: Global, story: &Story) -> Result<(), Fail> {
-    walk_on(rt, alloc, Spool::new(alloc, story.limit)?, story)
+    walk_on(rt, alloc, Spool::new(rt, alloc, story.limit)?, story)
 }
 
 /// Takes the steps in turn on this vault.

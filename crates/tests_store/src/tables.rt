@@ -2,13 +2,12 @@
 //!
 //! The rows themselves are read by `scripts/store tables`.
 
-use crate::database::{again, count_all};
+use crate::database::{Count, again, count_all, run};
 use crate::entries::{Entry, Keys};
 use crate::stories::{Look, Step, Story, walk, walk_on, walk_through};
-use crate::vaults::{MARK, Spool, Told, opened};
+use crate::vaults::{MARK, Spool, Told, create, opened};
 use spool::{OpenFault, Unchanged, Vault};
-use sqlite::{Alter, Connection, MemStore};
-use sqlite_value::value::ValueRef;
+use sqlite::{Alter, Connection, Error, MemStore};
 use std::alloc::Global;
 use std::process::Abort;
 use std::test::Fail;
@@ -55,40 +54,41 @@ fn rows_are_counted(rt: HostRuntime) -> Result<(), Fail> {
     walk(&rt, rt.alloc(), &ROWS_ARE_COUNTED)
 }
 
-/// Whether nothing is made beside a table of topics.
-fn refuses_topics<S: Alter + Drop>(conn: Connection<S>) -> Result<(), Fail> {
-    let mut conn = conn;
-    conn.execute_batch("CREATE TABLE topics(a)")?;
-    if !conn.is_autocommit() {
-        return Err(Fail::from("a transaction is open"));
-    }
-    match Vault::create(conn, 8) {
-        Ok(_) => Err(Fail::from("create was not refused")),
-        Err((_, fault)) if matches!(fault, OpenFault::NotOurs) => Ok(()),
-        Err(_) => Err(Fail::from("create was refused for another reason")),
-    }
-}
-
-#[test]
-fn a_store_with_a_table_of_topics_is_not_ours(rt: HostRuntime) -> Result<(), Fail> {
-    refuses_topics(Connection::open_in_memory(rt.alloc())?)
-}
-
-/// Whether nothing is made in the store of this vault.
-fn refuses_ours<S: Alter + Drop>(rt: &impl Abort, vault: Vault<S>) -> Result<(), Fail> {
-    match Vault::create(vault.release(), 8) {
-        Ok(_) => Err(Fail::from("create was not refused")),
+/// The store in which nothing is made, as its tables are not ours.
+fn refused<S: Alter + Drop>(rt: &impl Abort, conn: Connection<S>) -> Connection<S> {
+    match create(rt, conn, 8) {
+        Ok(_) => panic!(rt; "create was not refused"),
         Err((conn, fault)) => {
-            let mut conn = conn;
             assert!(rt; matches!(fault, OpenFault::NotOurs));
-            count_all(rt, &mut conn, &[("SELECT records FROM meta", 0)])
+            conn
         }
     }
 }
 
+/// Whether nothing is made beside a table of topics.
+fn refuses_topics<S: Alter + Drop>(rt: &impl Abort, conn: Connection<S>) -> Result<(), Error> {
+    let mut conn = conn;
+    let told = run(&mut conn, "CREATE TABLE topics(a)");
+    drop(refused(rt, conn));
+    told
+}
+
+#[test]
+fn a_store_with_a_table_of_topics_is_not_ours(rt: HostRuntime) -> Result<(), Fail> {
+    Ok(refuses_topics(&rt, Connection::open_in_memory(rt.alloc())?)?)
+}
+
+/// Whether nothing is made in the store of this vault.
+fn refuses_ours<S: Alter + Drop>(rt: &impl Abort, vault: Vault<S>) -> Result<(), Fail> {
+    let mut conn = refused(rt, vault.release());
+    count_all(rt, &mut conn, &NO_RECORD)
+}
+
+static NO_RECORD: [Count; 1] = [("SELECT records FROM meta", 0)];
+
 #[test]
 fn a_store_with_our_tables_is_not_ours(rt: HostRuntime) -> Result<(), Fail> {
-    refuses_ours(&rt, opened(rt.alloc(), None)?)
+    refuses_ours(&rt, opened(&rt, rt.alloc(), None)?)
 }
 
 static REFUSALS_CHANGE_NOTHING: Story = Story {
@@ -307,13 +307,11 @@ static AT_MOST_4096_TOPICS: Story = Story {
     ],
 };
 
-fn adopted<S: Alter + Drop>(alloc: Global, conn: Connection<S>) -> Result<Vault<S>, Fail> {
-    if !conn.is_autocommit() {
-        return Err(Fail::from("a transaction is open"));
-    }
+fn adopted<S: Alter + Drop>(rt: &impl Abort, alloc: Global, conn: Connection<S>) -> Vault<S> {
+    assert!(rt; conn.is_autocommit());
     match Vault::adopt(conn, MARK, alloc) {
-        Ok(vault) => Ok(vault),
-        Err((_, _)) => Err(Fail::from("adopt was refused")),
+        Ok(vault) => vault,
+        Err((_, _)) => panic!(rt; "adopt was refused"),
     }
 }
 
@@ -324,7 +322,12 @@ pub(crate) fn walk_adopted<S: Alter + Drop>(
     conn: Connection<S>,
     story: &Story,
 ) -> Result<(), Fail> {
-    walk_on(rt, alloc, Spool::of(alloc, adopted(alloc, conn)?)?, story)
+    walk_on(
+        rt,
+        alloc,
+        Spool::of(alloc, adopted(rt, alloc, conn))?,
+        story,
+    )
 }
 
 /// The store of a vault that takes the steps, opened over again.
@@ -333,7 +336,7 @@ pub(crate) fn left_after(
     alloc: Global,
     steps: &[Step],
 ) -> Result<Connection<MemStore>, Fail> {
-    let (told, conn) = walk_through(rt, alloc, Spool::new(alloc, None)?, steps);
+    let (told, conn) = walk_through(rt, alloc, Spool::new(rt, alloc, None)?, steps);
     match told {
         Ok(()) => Ok(again(rt, alloc, conn)),
         Err(fail) => Err(fail),
@@ -343,30 +346,42 @@ pub(crate) fn left_after(
 static ENDPOINT_A: &[Step] = &[Step::Enter(PUT_A, Told::Written)];
 
 fn add_topic<S: Alter>(alloc: Global, conn: &mut Connection<S>, number: u32) -> Result<(), Fail> {
-    let topic = format!(in alloc; "t{number}")?;
-    let values = [
-        ValueRef::Text(topic.as_bytes()),
-        ValueRef::Int(i64::from(number)),
-    ];
-    conn.execute("INSERT INTO topics VALUES(?1, 0, 1, ?2 + 1)", &values)?;
-    Ok(())
+    let sql = format!(in alloc; "INSERT INTO topics VALUES('t{number}', 0, 1, {number} + 1)")?;
+    Ok(run(conn, &sql)?)
+}
+
+/// The tables have an endpoint and so many topics.
+fn count_topics<S: Alter>(alloc: Global, conn: &mut Connection<S>, count: u32) -> Result<(), Fail> {
+    let sql = format!(in alloc; "UPDATE meta SET records = {count} + 1; COMMIT")?;
+    Ok(run(conn, &sql)?)
 }
 
 /// Subscribes endpoint `a` to so many topics, beside the vault.
 fn add_topics<S: Alter>(alloc: Global, conn: &mut Connection<S>, count: u32) -> Result<(), Fail> {
-    conn.execute_batch("BEGIN")?;
+    run(conn, "BEGIN")?;
     for number in 0..count {
         add_topic(alloc, conn, number)?;
     }
-    let text = format!(in alloc; "UPDATE meta SET records = {count} + 1; COMMIT")?;
-    Ok(conn.execute_batch(&text)?)
+    count_topics(alloc, conn, count)
+}
+
+fn walk_with_topics<S: Alter + Drop>(
+    rt: &impl Abort,
+    alloc: Global,
+    conn: Connection<S>,
+    story: &Story,
+) -> Result<(), Fail> {
+    let mut conn = conn;
+    match add_topics(alloc, &mut conn, 4095) {
+        Ok(()) => walk_adopted(rt, alloc, conn, story),
+        told => told,
+    }
 }
 
 #[test]
 fn at_most_4096_topics(rt: HostRuntime) -> Result<(), Fail> {
-    let mut conn = left_after(&rt, rt.alloc(), ENDPOINT_A)?;
-    add_topics(rt.alloc(), &mut conn, 4095)?;
-    walk_adopted(&rt, rt.alloc(), conn, &AT_MOST_4096_TOPICS)
+    let conn = left_after(&rt, rt.alloc(), ENDPOINT_A)?;
+    walk_with_topics(&rt, rt.alloc(), conn, &AT_MOST_4096_TOPICS)
 }
 
 /// Nine failures and a gone, and then the tenth failure.

@@ -1,9 +1,11 @@
 //! Vaults over stores in memory, and what is committed to them.
 
-use crate::entries::{Entry, Keys, accept, name_of, put, record_of, secrets_of, subscribed};
+use crate::entries::{
+    Entry, Keys, accept, name_of, outcome, put, record_of, secrets_of, subscribed,
+};
 use group_commit::Waiting;
-use relay_types::{Moment, MsgId, Name, Record, Step};
-use spool::{Batch, Books, CommitEnd, Receipt, Unchanged, Vault};
+use relay_types::{MsgId, Name, Record, Step};
+use spool::{Batch, Books, CommitEnd, LoadFault, OpenFault, Receipt, Unchanged, Vault};
 use sqlite::{Alter, Connection, MemStore};
 use std::alloc::Global;
 use std::process::Abort;
@@ -38,21 +40,32 @@ pub(crate) struct Spool<S: Alter> {
     pub waiting: Waiting,
 }
 
-fn created<S: Alter + Drop>(conn: Connection<S>) -> Result<Vault<S>, Fail> {
-    if !conn.is_autocommit() {
-        return Err(Fail::from("a transaction is open"));
-    }
-    match Vault::create(conn, MARK) {
-        Ok(vault) => Ok(vault),
-        Err((_, _)) => Err(Fail::from("create was refused")),
+/// A vault in the store of a connection that is outside a transaction.
+pub(crate) fn create<S: Alter>(
+    rt: &impl Abort,
+    conn: Connection<S>,
+    mark: u64,
+) -> Result<Vault<S>, (Connection<S>, OpenFault)> {
+    assert!(rt; conn.is_autocommit());
+    Vault::create(conn, mark)
+}
+
+fn created<S: Alter + Drop>(rt: &impl Abort, conn: Connection<S>) -> Vault<S> {
+    match create(rt, conn, MARK) {
+        Ok(vault) => vault,
+        Err((_, _)) => panic!(rt; "create was refused"),
     }
 }
 
 /// A new vault. A statement fails that takes more steps than the limit.
-pub(crate) fn opened(alloc: Global, limit: Option<u64>) -> Result<Vault<MemStore>, Fail> {
+pub(crate) fn opened(
+    rt: &impl Abort,
+    alloc: Global,
+    limit: Option<u64>,
+) -> Result<Vault<MemStore>, Fail> {
     let mut conn = Connection::open_in_memory(alloc)?;
     conn.set_step_limit(limit);
-    created(conn)
+    Ok(created(rt, conn))
 }
 
 fn ended(receipt: Receipt, mark: u64, from: u64) -> Told {
@@ -61,17 +74,24 @@ fn ended(receipt: Receipt, mark: u64, from: u64) -> Told {
     if is_same { Told::Written } else { Told::Astray }
 }
 
-fn commit<S: Alter>(vault: &mut Vault<S>, batch: Batch, mark: u64, from: u64) -> Told {
-    match vault.commit(batch) {
-        Ok(receipt) => ended(receipt, mark, from),
-        Err(CommitEnd::Unchanged(batch, why)) => {
+/// What a commit tells that gives no receipt.
+fn told_of(end: CommitEnd) -> Told {
+    match end {
+        CommitEnd::Unchanged(batch, why) => {
             drop(batch.into_steps());
             Told::Refused(why)
         }
-        Err(CommitEnd::Doubtful(doubt, _)) => {
+        CommitEnd::Doubtful(doubt, _) => {
             doubt.end();
             Told::Doubtful
         }
+    }
+}
+
+fn commit<S: Alter>(vault: &mut Vault<S>, batch: Batch, mark: u64, from: u64) -> Told {
+    match vault.commit(batch) {
+        Ok(receipt) => ended(receipt, mark, from),
+        Err(end) => told_of(end),
     }
 }
 
@@ -130,8 +150,9 @@ pub(crate) fn take_together<S: Alter>(
     Ok(spool.commit())
 }
 
-fn numbered(alloc: Global, number: u32) -> Result<Name, Fail> {
-    let text = format!(in alloc; "e{number}")?;
+/// The name of this letter and number.
+pub(crate) fn numbered(alloc: Global, letter: char, number: u64) -> Result<Name, Fail> {
+    let text = format!(in alloc; "{letter}{number}")?;
     Ok(Name::read(text.as_bytes())?)
 }
 
@@ -143,7 +164,12 @@ pub(crate) fn put_all<S: Alter>(
     keys: Keys,
 ) -> Result<Told, Fail> {
     for number in 0..count {
-        let record = put(alloc, numbered(alloc, number)?, 100, secrets_of(keys)?)?;
+        let record = put(
+            alloc,
+            numbered(alloc, 'e', u64::from(number))?,
+            100,
+            secrets_of(keys)?,
+        )?;
         let told = enter(alloc, &mut spool.vault, MARK, number, record)?;
         if !same_told(told, Told::Written) {
             return Ok(told);
@@ -152,10 +178,25 @@ pub(crate) fn put_all<S: Alter>(
     Ok(Told::Written)
 }
 
+fn stage(rt: &impl Abort, waiting: &mut Waiting, record: Record) {
+    assert!(rt; waiting.records() < 1_000_000);
+    if matches!(record, Record::Outcome { .. }) {
+        assert!(rt; waiting.free_outcomes() > 0);
+        waiting.stage_outcome(Step::of(record));
+    } else {
+        let told = waiting.stage_request(Step::of(record));
+        assert!(rt; told.is_ok());
+    }
+}
+
 impl Spool<MemStore> {
     /// A new vault.
-    pub(crate) fn new(alloc: Global, limit: Option<u64>) -> Result<Spool<MemStore>, Fail> {
-        Spool::of(alloc, opened(alloc, limit)?)
+    pub(crate) fn new(
+        rt: &impl Abort,
+        alloc: Global,
+        limit: Option<u64>,
+    ) -> Result<Spool<MemStore>, Fail> {
+        Spool::of(alloc, opened(rt, alloc, limit)?)
     }
 }
 
@@ -170,14 +211,7 @@ impl<S: Alter + Drop> Spool<S> {
 impl<S: Alter> Spool<S> {
     /// The record waits as a step.
     pub(crate) fn stage(&mut self, rt: &impl Abort, record: Record) {
-        assert!(rt; self.waiting.records() < 1_000_000);
-        if matches!(record, Record::Outcome { .. }) {
-            assert!(rt; self.waiting.free_outcomes() > 0);
-            self.waiting.stage_outcome(Step::of(record));
-        } else {
-            let told = self.waiting.stage_request(Step::of(record));
-            assert!(rt; told.is_ok());
-        }
+        stage(rt, &mut self.waiting, record);
     }
 
     /// Commits what waits, 256 records at most.
@@ -187,14 +221,7 @@ impl<S: Alter> Spool<S> {
         };
         match self.vault.commit(batch) {
             Ok(receipt) => self.settle(receipt),
-            Err(CommitEnd::Unchanged(batch, why)) => {
-                drop(batch.into_steps());
-                Told::Refused(why)
-            }
-            Err(CommitEnd::Doubtful(doubt, _)) => {
-                doubt.end();
-                Told::Doubtful
-            }
+            Err(end) => told_of(end),
         }
     }
 
@@ -215,10 +242,14 @@ impl<S: Alter> Spool<S> {
 
     /// The books of a vault that has them.
     pub(crate) fn books(&mut self, alloc: Global) -> Result<Books, Fail> {
-        match self.vault.load(alloc) {
+        match self.load(alloc) {
             Ok(books) => Ok(books),
             Err(_) => Err(Fail::from("the load was refused")),
         }
+    }
+
+    pub(crate) fn load(&mut self, alloc: Global) -> Result<Books, LoadFault> {
+        self.vault.load(alloc)
     }
 
     /// Steps wait after what was committed alone.
@@ -255,73 +286,47 @@ pub(crate) fn id_of(alloc: Global, number: u64) -> Result<MsgId, Fail> {
     Ok(MsgId::read(text.as_bytes())?)
 }
 
-/// Commits events of `a` with these numbers in their ids.
-pub(crate) fn take_in<S: Alter>(
+/// What is committed for a number.
+#[derive(Clone, Copy)]
+pub(crate) enum Each {
+    /// An event of `a` with the number in its id.
+    Event(Moments),
+    /// A first outcome of the event with the number.
+    End(u16, Moments),
+    /// `a` is subscribed to the topic with the number.
+    Topic,
+}
+
+fn record_at(alloc: Global, each: Each, number: u64) -> Result<Record, Fail> {
+    let name = name_of(b'a')?;
+    match each {
+        Each::Event(moments) => {
+            accept(
+                alloc,
+                name,
+                id_of(alloc, number)?,
+                b"{}",
+                moment(moments, number),
+            )
+        }
+        Each::End(status, moments) => outcome(number, 1, status, moment(moments, number)),
+        Each::Topic => Ok(subscribed(numbered(alloc, 't', number)?, name, true)),
+    }
+}
+
+/// Commits the records of these numbers. Whether they are written.
+pub(crate) fn enter_each<S: Alter>(
     rt: &impl Abort,
     alloc: Global,
     spool: &mut Spool<S>,
     span: Span,
-    moments: Moments,
+    each: Each,
 ) -> Result<bool, Fail> {
     let Span(first, end, size) = span;
-    let name = name_of(b'a')?;
     spool.follow(rt, alloc)?;
     let mut is_done = true;
     for number in first..end {
-        let id = id_of(alloc, number)?;
-        spool.stage(rt, accept(alloc, name, id, b"{}", moment(moments, number))?);
-        if spool.waiting.len() >= size {
-            is_done = is_done && spool.is_written();
-        }
-    }
-    Ok(is_done && spool.is_written())
-}
-
-pub(crate) fn topic_of(alloc: Global, number: u64) -> Result<Name, Fail> {
-    let text = format!(in alloc; "t{number}")?;
-    Ok(Name::read(text.as_bytes())?)
-}
-
-/// Subscribes `a` to the topics with these numbers.
-pub(crate) fn subscribe_all<S: Alter>(
-    rt: &impl Abort,
-    alloc: Global,
-    spool: &mut Spool<S>,
-    span: Span,
-) -> Result<bool, Fail> {
-    let Span(first, end, size) = span;
-    let name = name_of(b'a')?;
-    spool.follow(rt, alloc)?;
-    let mut is_done = true;
-    for number in first..end {
-        spool.stage(rt, subscribed(topic_of(alloc, number)?, name, true));
-        if spool.waiting.len() >= size {
-            is_done = is_done && spool.is_written();
-        }
-    }
-    Ok(is_done && spool.is_written())
-}
-
-/// Commits a first outcome of the events with these numbers.
-pub(crate) fn end_all<S: Alter>(
-    rt: &impl Abort,
-    alloc: Global,
-    spool: &mut Spool<S>,
-    span: Span,
-    status: u16,
-    moments: Moments,
-) -> Result<bool, Fail> {
-    let Span(first, end, size) = span;
-    spool.follow(rt, alloc)?;
-    let mut is_done = true;
-    for delivery in first..end {
-        let record = Record::Outcome {
-            delivery,
-            attempt: 1,
-            status,
-            at: Moment::of(moment(moments, delivery))?,
-        };
-        spool.stage(rt, record);
+        spool.stage(rt, record_at(alloc, each, number)?);
         if spool.waiting.len() >= size {
             is_done = is_done && spool.is_written();
         }
