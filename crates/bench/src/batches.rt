@@ -1,9 +1,10 @@
 //! What waits goes into the store, in one commit.
 use crate::failed::Failed;
 use crate::times::{BatchTimes, add, since};
-use desk::Desk;
-use spool::{Batch, CommitEnd, Receipt, Vault};
+use desk::{Command, Desk};
+use spool::{Batch, CommitEnd, OpenFault, Receipt, Vault};
 use sqlite::{Alter, Connection};
+use std::alloc::Global;
 use std::sync::ledger::Ledger;
 use std::time::Instant;
 
@@ -18,10 +19,33 @@ pub(crate) fn created<S: Alter + Drop>(conn: Connection<S>) -> Result<Vault<S>, 
     if !conn.is_autocommit() {
         return Err(Failed);
     }
-    match Vault::create(conn, MARK) {
+    opened(Vault::create(conn, MARK))
+}
+
+/// The vault over a store that stands.
+pub(crate) fn adopted<S: Alter + Drop>(
+    alloc: Global,
+    conn: Connection<S>,
+) -> Result<Vault<S>, Failed> {
+    if !conn.is_autocommit() {
+        return Err(Failed);
+    }
+    opened(Vault::adopt(conn, MARK, alloc))
+}
+
+fn opened<S: Alter + Drop>(
+    end: Result<Vault<S>, (Connection<S>, OpenFault)>,
+) -> Result<Vault<S>, Failed> {
+    match end {
         Ok(vault) => Ok(vault),
         Err(_) => Err(Failed),
     }
+}
+
+/// Gives a command to the desk.
+pub(crate) fn give<L: Ledger>(desk: &mut Desk<L>, command: Command) -> Result<(), Failed> {
+    desk.command(command)?;
+    Ok(())
 }
 
 /// The receipt of the batch, if it was committed.

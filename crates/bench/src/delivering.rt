@@ -1,9 +1,12 @@
 //! Events that are posted: each is claimed and spent with status 200, and the outcomes are committed 256 at a time.
+ghost use Rattle.std.specs.Prelude.{◌≡◌, None, position};
+ghost use Rattle.permits.specs.Rows.{same_row};
+
 use crate::batches::{BATCH, commit_waiting};
 use crate::failed::Failed;
 use crate::times::{Times, add, since};
 use desk::Desk;
-use permits::Foreign;
+use permits::{Foreign, Permit};
 use relay_types::Moment;
 use retry_table::{PostResult, Status};
 use spool::Vault;
@@ -56,19 +59,25 @@ fn post<L: Ledger>(
     now: Moment,
     times: &mut Times,
 ) -> Result<(), Failed> {
-    let result = answered()?;
+    let outcome = answered()?;
     let from = since(rt, began);
     let Some(job) = desk.claim(now)? else {
         return Err(Failed);
     };
     let claimed = since(rt, began);
-    match desk.spend(job.into_permit(), result, now) {
-        Ok(_) => {}
-        Err((_permit, Foreign)) => unreachable!(),
-    }
+    spend(desk, job.into_permit(), outcome, now);
     add(&mut times.claiming, from, claimed);
     add(&mut times.spending, claimed, since(rt, began));
     Ok(())
+}
+
+fn spend<L: Ledger>(desk: &mut Desk<L>, permit: Permit<L>, outcome: PostResult, now: Moment)
+    requires { position (same_row permit) desk.old.live ≡ None → ⊥ }
+{
+    match desk.spend(permit, outcome, now) {
+        Ok(_) => {}
+        Err((_permit, Foreign)) => unreachable!(),
+    }
 }
 
 fn answered() -> Result<PostResult, Failed> {

@@ -16,12 +16,17 @@ pub(crate) fn name_of(alloc: Global, number: u32) -> Result<Name, Failed> {
     Ok(Name::read(text.as_bytes())?)
 }
 
-/// The text of an event's id: ids come in no order, as made ones do, and none comes twice, as the factor is odd.
-pub(crate) fn id_text(alloc: Global, number: u32) -> Result<String, Failed> {
-    Ok(format!(in alloc; "msg_{}", number.wrapping_mul(2_654_435_761))?)
+/// The number in an event's id: ids come in no order, as made ones do, and none comes twice, as the factor is odd.
+pub(crate) fn scattered(number: u32) -> u64 {
+    u64::from(number.wrapping_mul(2_654_435_761))
 }
 
-pub(crate) fn id_of(alloc: Global, number: u32) -> Result<MsgId, Failed> {
+/// The text of an event's id.
+pub(crate) fn id_text(alloc: Global, number: u64) -> Result<String, AllocError> {
+    format!(in alloc; "msg_{number}")
+}
+
+pub(crate) fn id_of(alloc: Global, number: u64) -> Result<MsgId, Failed> {
     let text = id_text(alloc, number)?;
     Ok(MsgId::read(text.as_bytes())?)
 }
@@ -32,18 +37,33 @@ pub(crate) fn bytes_of_body(alloc: Global) -> Result<Vec<u8>, AllocError> {
     Ok(bytes)
 }
 
-pub(crate) fn body_of(alloc: Global) -> Result<Body, Failed> {
-    let shared = Arc::new(alloc, bytes_of_body(alloc)?).map_err(AllocError::from)?;
+/// A body of these bytes.
+pub(crate) fn body_with(alloc: Global, bytes: Vec<u8>) -> Result<Body, Failed> {
+    let shared = Arc::new(alloc, bytes).map_err(AllocError::from)?;
     Ok(Body::of(shared)?)
+}
+
+pub(crate) fn body_of(alloc: Global) -> Result<Body, Failed> {
+    body_with(alloc, bytes_of_body(alloc)?)
 }
 
 /// Puts an endpoint.
 pub(crate) fn put_of(alloc: Global, number: u32) -> Result<Command, Failed> {
     let secret = Secret::read(b"whsec_MDEyMzQ1Njc4OTAxMjM0NTY3ODkwMTIz")?;
+    let secrets = Secrets::of(&[secret])?;
+    let max = MaxLimit::of(100)?;
+    let name = name_of(alloc, number)?;
+    let target = Target::read(alloc, b"http://127.0.0.1:9000/hook")?;
     Ok(Command::PutEndpoint {
-        name: name_of(alloc, number)?,
-        target: Target::read(alloc, b"http://127.0.0.1:9000/hook")?,
-        max: MaxLimit::of(100)?,
-        secrets: Secrets::of(&[secret])?,
+        name,
+        target,
+        max,
+        secrets,
     })
+}
+
+/// Disables an endpoint.
+pub(crate) fn disable_of(alloc: Global, number: u32) -> Result<Command, Failed> {
+    let name = name_of(alloc, number)?;
+    Ok(Command::SetEnabled { name, flag: false })
 }

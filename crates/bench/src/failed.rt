@@ -3,13 +3,20 @@ use desk::Refusal;
 use relay_types::ReadFault;
 use sqlite::Error;
 use std::alloc::AllocError;
+use std::io;
 
-/// A run that went wrong.
+/// A run that went wrong, or words that name none.
 #[derive(Drop)]
 pub(crate) struct Failed;
 
 impl From<AllocError> for Failed {
     fn from(_: AllocError) -> Failed {
+        Failed
+    }
+}
+
+impl From<io::Error> for Failed {
+    fn from(_: io::Error) -> Failed {
         Failed
     }
 }

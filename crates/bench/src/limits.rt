@@ -1,8 +1,8 @@
 //! Runs over an estimator alone.
 ghost use Rattle.std.specs.Prelude.{◌≤◌};
 
+use crate::failed::Failed;
 use relay_types::MaxLimit;
-use std::io;
 use vegas::Estimator;
 
 /// What an estimator is given.
@@ -42,12 +42,10 @@ fn feed(mut estimator: Estimator, count: u64) -> Estimator {
     estimator
 }
 
-/// Prints the limit and the no-load time after as many samples. Whether there is such a number.
-pub(crate) fn print_limit(rt: &HostRuntime, count: Option<u64>) -> io::Result<bool> {
-    let (Some(count), Ok(max)) = (count, MaxLimit::of(1000)) else {
-        return Ok(false);
-    };
-    let estimator = feed(Estimator::new(rt.alloc(), max)?, count);
-    println!(rt; "{} {}", estimator.limit(), estimator.noload())?;
-    Ok(true)
+/// Prints the limit and the no-load time after as many samples.
+pub(crate) fn print_limit(rt: &HostRuntime, count: u64) -> Result<(), Failed> {
+    let estimator = feed(Estimator::new(rt.alloc(), MaxLimit::of(1000)?)?, count);
+    let (limit, noload) = (estimator.limit(), estimator.noload());
+    println!(rt; "{limit} {noload}")?;
+    Ok(())
 }

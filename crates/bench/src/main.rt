@@ -9,19 +9,20 @@ mod events;
 mod failed;
 mod inserting;
 mod limits;
-mod purging;
 mod queues;
 mod reopening;
 mod submitting;
 mod times;
+mod working;
 
 use crate::books::print_book;
+use crate::failed::Failed;
 use crate::inserting::insert_rows;
 use crate::limits::print_limit;
-use crate::purging::print_purge;
 use crate::queues::print_calls;
 use crate::reopening::print_parts;
-use crate::submitting::{Plan, post_plan, print_submitting, submit_plan};
+use crate::submitting::{post_plan, submit_plan};
+use crate::working::{Work, print_work};
 use sqlite::{Alter, Connection};
 use std::io;
 use std::process::ExitCode;
@@ -47,109 +48,84 @@ const MAX_COUNT: u64 = 10_000_000;
 enum Run {
     Insert(u32),
     Parts,
-    Purge(u32),
-    Submit(Plan),
+    Work(Work),
 }
 
-fn number_of(word: &str) -> Option<u64> {
-    read_number(word.as_bytes())
-}
-
-fn count_of(word: &str) -> Option<u32> {
-    match number_of(word) {
-        Some(count) if count <= MAX_COUNT => Some(count as u32),
-        _ => None,
+fn number_of(word: &str) -> Result<u64, Failed> {
+    match read_number(word.as_bytes()) {
+        Some(number) => Ok(number),
+        None => Err(Failed),
     }
 }
 
-/// Two counts.
-fn counts_of(one: &str, other: &str) -> Option<(u32, u32)> {
-    match (count_of(one), count_of(other)) {
-        (Some(one), Some(other)) => Some((one, other)),
-        _ => None,
+fn count_of(word: &str) -> Result<u32, Failed> {
+    match number_of(word) {
+        Ok(count) if count <= MAX_COUNT => Ok(count as u32),
+        _ => Err(Failed),
     }
 }
 
 /// The run of so many events over a file.
-fn run_of(name: &str, count: u32) -> Option<Run> {
+fn run_of(name: &str, count: u32) -> Result<Run, Failed> {
     match name {
-        "insert" => Some(Run::Insert(count)),
-        "purge" => Some(Run::Purge(count)),
-        "submit" => Some(Run::Submit(submit_plan(count))),
-        _ => None,
+        "insert" => Ok(Run::Insert(count)),
+        "purge" => Ok(Run::Work(Work::Purge(submit_plan(count)))),
+        "submit" => Ok(Run::Work(Work::Submit(submit_plan(count)))),
+        _ => Err(Failed),
     }
 }
 
-/// Makes the run over the store in the file. Whether it ended well.
-fn run_over(rt: &HostRuntime, run: Run, path: &str) -> io::Result<bool> {
+/// Makes the run over the store in the file.
+fn run_over(rt: &HostRuntime, run: Run, path: &str) -> Result<(), Failed> {
     let began = Instant::now(rt)?;
+    run_in(rt, began, run, path)
+}
+
+fn run_in(rt: &HostRuntime, began: Instant, run: Run, path: &str) -> Result<(), Failed> {
     match Connection::open(rt, path) {
         Ok(conn) => run_with(rt, began, conn, run),
-        Err(_) => Ok(false),
+        Err(_) => Err(Failed),
     }
 }
 
 fn run_with<S: Alter + Drop>(
     rt: &HostRuntime,
     began: Instant,
-    conn: Connection<S>,
+    mut conn: Connection<S>,
     run: Run,
-) -> io::Result<bool> {
+) -> Result<(), Failed> {
     match run {
-        Run::Insert(count) => Ok(insert_rows(rt.alloc(), conn, count)),
+        Run::Insert(count) => insert_rows(rt.alloc(), &mut conn, count),
         Run::Parts => print_parts(rt, began, conn),
-        Run::Purge(count) => print_purge(rt, began, conn, count),
-        Run::Submit(plan) => print_submitting(rt, began, conn, plan),
+        Run::Work(work) => print_work(rt, began, conn, work),
     }
 }
 
-/// Makes the run of so many events over the store in the file. Whether there is one, and it ended well.
-fn run_counted(rt: &HostRuntime, name: &str, count: &str, path: &str) -> io::Result<bool> {
-    let Some(count) = count_of(count) else {
-        return Ok(false);
-    };
-    match run_of(name, count) {
-        Some(run) => run_over(rt, run, path),
-        None => Ok(false),
-    }
-}
-
-fn run_posts(rt: &HostRuntime, count: &str, endpoints: &str, path: &str) -> io::Result<bool> {
-    match counts_of(count, endpoints) {
-        Some((count, endpoints)) => run_over(rt, Run::Submit(post_plan(count, endpoints)), path),
-        None => Ok(false),
-    }
-}
-
-fn run_queue(rt: &HostRuntime, count: &str, endpoints: &str) -> io::Result<bool> {
-    match counts_of(count, endpoints) {
-        Some((count, endpoints)) => print_calls(rt, count, endpoints),
-        None => Ok(false),
-    }
-}
-
-/// Runs what the words name. Whether they name a run that ended well.
-fn run_words(rt: &HostRuntime, words: &[&str]) -> io::Result<bool> {
+/// Runs what the words name.
+fn run_words(rt: &HostRuntime, words: &[&str]) -> Result<(), Failed> {
     match words {
-        [_] => {
-            print!(rt; "{LIST}")?;
-            Ok(true)
-        }
-        [_, "limit", count] => print_limit(rt, number_of(count)),
-        [_, "events", count] => print_book(rt, number_of(count), false),
-        [_, "outcomes", count] => print_book(rt, number_of(count), true),
+        [_] => Ok(print!(rt; "{LIST}")?),
+        [_, "limit", count] => print_limit(rt, number_of(count)?),
+        [_, "events", count] => print_book(rt, number_of(count)?, false),
+        [_, "outcomes", count] => print_book(rt, number_of(count)?, true),
         [_, "parts", path] => run_over(rt, Run::Parts, path),
-        [_, "queue", count, endpoints] => run_queue(rt, count, endpoints),
-        [_, "post", count, endpoints, path] => run_posts(rt, count, endpoints, path),
-        [_, name, count, path] => run_counted(rt, name, count, path),
-        _ => Ok(false),
+        [_, "queue", count, endpoints] => print_calls(rt, count_of(count)?, count_of(endpoints)?),
+        [_, "post", count, endpoints, path] => {
+            let plan = post_plan(count_of(count)?, count_of(endpoints)?);
+            run_over(rt, Run::Work(Work::Submit(plan)), path)
+        }
+        [_, name, count, path] => run_over(rt, run_of(name, count_of(count)?)?, path),
+        _ => Err(Failed),
     }
 }
 
 fn main(rt: HostRuntime) -> io::Result<ExitCode> {
     let alloc = rt.alloc();
     let words: Vec<String> = std::env::args(&rt)?.collect(alloc)?;
-    let shown: Vec<&str> = words.iter().map(|word| word.as_str()).collect(alloc)?;
-    let is_done = run_words(&rt, shown.as_slice())?;
-    Ok(ExitCode::from(u8::from(!is_done)))
+    let mut shown = Vec::with_capacity(alloc, words.len())?;
+    for word in &words {
+        shown.push(word.as_str())?;
+    }
+    let end = run_words(&rt, shown.as_slice());
+    Ok(ExitCode::from(u8::from(end.is_err())))
 }

@@ -4,11 +4,10 @@ ghost use Rattle.std.specs.Prelude.{◌<◌};
 use crate::events::name_of;
 use crate::failed::Failed;
 use crate::limits::next_number;
-use crate::times::{add, since};
+use crate::times::{add, print_lines, since};
 use claim_queue::ClaimQueue;
 use relay_types::Name;
 use std::alloc::Global;
-use std::io;
 use std::time::{Duration, Instant};
 
 /// How many deliveries are claimed.
@@ -142,41 +141,47 @@ fn claim_each(
     began: Instant,
     queue: &mut ClaimQueue,
     count: u32,
-) -> Option<Calls> {
-    let mut calls = NO_CALLS;
+    calls: &mut Calls,
+) -> Result<(), Failed> {
     for round in 0..ROUNDS {
-        if !claim(rt, began, queue, &mut calls, u64::from(count) + round) {
-            return None;
+        if !claim(rt, began, queue, calls, u64::from(count) + round) {
+            return Err(Failed);
         }
     }
-    Some(calls)
+    Ok(())
 }
 
 /// Prints how many nanoseconds each call takes where so many deliveries of so many endpoints are
-/// held. Whether there are such numbers.
-pub(crate) fn print_calls(rt: &HostRuntime, count: u32, endpoints: u32) -> io::Result<bool> {
+/// held.
+pub(crate) fn print_calls(rt: &HostRuntime, count: u32, endpoints: u32) -> Result<(), Failed> {
+    let mut calls = NO_CALLS;
+    time_calls(rt, count, endpoints, &mut calls)?;
+    print_lines(
+        rt,
+        &[
+            ("next", each(calls.next)),
+            ("remove", each(calls.remove)),
+            ("set_room, twice", each(calls.set_room)),
+            ("insert", each(calls.insert)),
+            ("the clock", each(calls.nothing)),
+        ],
+    )
+}
+
+fn time_calls(
+    rt: &HostRuntime,
+    count: u32,
+    endpoints: u32,
+    calls: &mut Calls,
+) -> Result<(), Failed> {
     if endpoints == 0 || endpoints > 256 {
-        return Ok(false);
+        return Err(Failed);
     }
-    let Ok(mut queue) = filled(rt.alloc(), count, endpoints) else {
-        return Ok(false);
-    };
-    let began = Instant::now(rt)?;
-    match claim_each(rt, began, &mut queue, count) {
-        Some(calls) => print_each(rt, &calls),
-        None => Ok(false),
-    }
+    let mut queue = filled(rt.alloc(), count, endpoints)?;
+    claim_each(rt, Instant::now(rt)?, &mut queue, count, calls)
 }
 
-fn print_each(rt: &HostRuntime, calls: &Calls) -> io::Result<bool> {
-    print_call(rt, "next", calls.next)?;
-    print_call(rt, "remove", calls.remove)?;
-    print_call(rt, "set_room, twice", calls.set_room)?;
-    print_call(rt, "insert", calls.insert)?;
-    print_call(rt, "the clock", calls.nothing)?;
-    Ok(true)
-}
-
-fn print_call(rt: &HostRuntime, call: &str, taken: Duration) -> io::Result<()> {
-    println!(rt; "{call} {}", taken.as_nanos() / u128::from(ROUNDS))
+/// How many nanoseconds one call took.
+fn each(taken: Duration) -> u128 {
+    taken.as_nanos() / u128::from(ROUNDS)
 }

@@ -1,15 +1,16 @@
 //! How long the opening of a store that stands takes, part by part.
-ghost use Rattle.std.specs.Prelude.{◌≡◌};
+ghost use Rattle.std.specs.Prelude.{◌≡◌, IfOk};
 ghost use Rattle.permits.specs.declared.pool.TheConstants.{PARTS};
+ghost use Rattle.spool.specs.Books.{AreSettled};
 
-use crate::batches::MARK;
-use crate::times::{print_time, since};
+use crate::batches::{MARK, adopted};
+use crate::failed::Failed;
+use crate::times::{print_lines, since};
 use desk::{Desk, Totals};
 use permits::{PARTS, Pool};
-use spool::Vault;
+use spool::{Books, Vault};
 use sqlite::{Alter, Connection};
 use std::alloc::Global;
-use std::io;
 use std::marker::Brand;
 use std::sync::ledger::{Blank, Ledger};
 use std::time::{Duration, Instant};
@@ -25,12 +26,12 @@ struct Ends {
 }
 
 /// Reopens the store that stands, and prints how many microseconds each part took, with the opening
-/// of its file, and what the store holds. Whether it was reopened.
+/// of its file, and what the store holds.
 pub(crate) fn print_parts<S: Alter + Drop>(
     rt: &HostRuntime,
     began: Instant,
     conn: Connection<S>,
-) -> io::Result<bool> {
+) -> Result<(), Failed> {
     let opened = since(rt, began);
     let mut ends = Ends {
         opened,
@@ -38,30 +39,34 @@ pub(crate) fn print_parts<S: Alter + Drop>(
         loaded: opened,
         seated: opened,
     };
-    let Some(totals) = reopened(rt, began, conn, &mut ends) else {
-        return Ok(false);
-    };
+    let totals = reopened(rt, began, conn, &mut ends)?;
     print_ends(rt, &ends)?;
-    print_totals(rt, &totals)?;
-    Ok(true)
+    print_totals(rt, &totals)
 }
 
-fn print_ends(rt: &HostRuntime, ends: &Ends) -> io::Result<()> {
-    print_time(rt, "opening", ends.opened)?;
-    print_time(rt, "adopting", ends.adopted.saturating_sub(ends.opened))?;
-    print_time(rt, "loading", ends.loaded.saturating_sub(ends.adopted))?;
-    print_time(rt, "seating", ends.seated.saturating_sub(ends.loaded))
+fn print_ends(rt: &HostRuntime, ends: &Ends) -> Result<(), Failed> {
+    print_lines(
+        rt,
+        &[
+            ("opening", ends.opened.as_micros()),
+            ("adopting", between(ends.opened, ends.adopted)),
+            ("loading", between(ends.adopted, ends.loaded)),
+            ("seating", between(ends.loaded, ends.seated)),
+        ],
+    )
 }
 
-/// The vault over a store that stands.
-fn adopted<S: Alter + Drop>(alloc: Global, conn: Connection<S>) -> Option<Vault<S>> {
-    if !conn.is_autocommit() {
-        return None;
-    }
-    match Vault::adopt(conn, MARK, alloc) {
-        Ok(vault) => Some(vault),
-        Err(_) => None,
-    }
+/// How many microseconds are between two moments.
+fn between(from: Duration, upto: Duration) -> u128 {
+    upto.saturating_sub(from).as_micros()
+}
+
+fn print_totals(rt: &HostRuntime, totals: &Totals) -> Result<(), Failed> {
+    println!(rt;
+        "records {} endpoints {} pending {}",
+        totals.records, totals.endpoints, totals.pending
+    )?;
+    Ok(())
 }
 
 fn reopened<S: Alter + Drop>(
@@ -69,10 +74,19 @@ fn reopened<S: Alter + Drop>(
     began: Instant,
     conn: Connection<S>,
     ends: &mut Ends,
-) -> Option<Totals> {
+) -> Result<Totals, Failed> {
     let mut vault = adopted(rt.alloc(), conn)?;
     ends.adopted = since(rt, began);
     seated::<Brand, S>(rt, began, Blank::new(PARTS), &mut vault, ends)
+}
+
+fn loaded<S: Alter>(alloc: Global, vault: &mut Vault<S>) -> Result<Books, Failed>
+    ensures { IfOk result AreSettled }
+{
+    match vault.load(alloc) {
+        Ok(books) => Ok(books),
+        Err(_) => Err(Failed),
+    }
 }
 
 fn seated<L: Ledger, S: Alter>(
@@ -81,25 +95,15 @@ fn seated<L: Ledger, S: Alter>(
     blank: Blank,
     vault: &mut Vault<S>,
     ends: &mut Ends,
-) -> Option<Totals>
+) -> Result<Totals, Failed>
     requires name { blank.name ≡ L.name }
     requires parts { blank.parts ≡ L.parts }
     requires enough { blank.parts ≡ PARTS }
 {
-    let (Ok(pool), Ok(books)) = (Pool::<L>::new(rt.alloc(), blank), vault.load(rt.alloc())) else {
-        return None;
-    };
+    let pool = Pool::<L>::new(rt.alloc(), blank)?;
+    let books = loaded(rt.alloc(), vault)?;
     ends.loaded = since(rt, began);
-    let Ok(desk) = Desk::of(rt.alloc(), pool, books, MARK) else {
-        return None;
-    };
+    let desk = Desk::of(rt.alloc(), pool, books, MARK)?;
     ends.seated = since(rt, began);
-    Some(desk.totals())
-}
-
-fn print_totals(rt: &HostRuntime, totals: &Totals) -> io::Result<()> {
-    println!(rt;
-        "records {} endpoints {} pending {}",
-        totals.records, totals.endpoints, totals.pending
-    )
+    Ok(desk.totals())
 }

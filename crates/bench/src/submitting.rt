@@ -1,31 +1,25 @@
 //! Submissions to a desk, which are committed 256 at a time and then posted.
-ghost use Rattle.std.specs.Prelude.{◌≡◌};
-ghost use Rattle.permits.specs.declared.pool.TheConstants.{PARTS};
-
-use crate::batches::{BATCH, MARK, commit_waiting, created};
+use crate::batches::{BATCH, commit_waiting, give};
 use crate::delivering::deliver;
-use crate::events::{body_of, id_of, name_of, put_of};
+use crate::events::{body_of, disable_of, id_of, name_of, put_of, scattered};
 use crate::failed::Failed;
-use crate::times::{Times, add, print_times, since};
-use desk::{Command, Desk};
-use permits::PARTS;
-use relay_types::Moment;
+use crate::times::{Times, add, since};
+use desk::Desk;
+use relay_types::{Moment, MsgId, Name};
 use spool::Vault;
-use sqlite::{Alter, Connection};
+use sqlite::Alter;
 use std::alloc::Global;
-use std::io;
-use std::marker::Brand;
-use std::sync::ledger::{Blank, Ledger};
+use std::sync::ledger::Ledger;
 use std::time::Instant;
 
 /// How many submissions are pending before they are posted, so that what one commit leaves to the next weighs little.
-pub(crate) const ROUND: u32 = 40 * BATCH;
+const ROUND: u32 = 40 * BATCH;
 
 /// What a run does: so many events, in rounds of so many that are pending before so many are posted.
 #[derive(Clone, Copy)]
 pub(crate) struct Plan {
-    endpoints: u32,
-    events: u32,
+    pub(crate) endpoints: u32,
+    pub(crate) events: u32,
     rounds: u32,
     pending: u32,
     /// How many endpoints are disabled before events are posted.
@@ -58,72 +52,27 @@ pub(crate) fn post_plan(events: u32, endpoints: u32) -> Plan {
     }
 }
 
-/// Submits and posts events over a store that is to have no table, and prints how many records are
-/// settled, and how many microseconds each part took. Whether that went well.
-pub(crate) fn print_submitting<S: Alter + Drop>(
-    rt: &HostRuntime,
-    began: Instant,
-    conn: Connection<S>,
-    plan: Plan,
-) -> io::Result<bool> {
-    let mut times = Times::ZERO;
-    let Ok(settled) = submit(rt, began, conn, plan, &mut times) else {
-        return Ok(false);
-    };
-    println!(rt; "settled {settled}")?;
-    print_times(rt, &times)?;
-    Ok(true)
-}
-
-/// Puts the endpoints, submits the events, each of 1 KiB, and posts them. How many records are settled.
-fn submit<S: Alter + Drop>(
-    rt: &HostRuntime,
-    began: Instant,
-    conn: Connection<S>,
-    plan: Plan,
-    times: &mut Times,
-) -> Result<u64, Failed> {
-    let mut vault = created(conn)?;
-    submit_to::<Brand, S>(rt, began, Blank::new(PARTS), &mut vault, plan, times)
-}
-
-fn submit_to<L: Ledger, S: Alter>(
-    rt: &HostRuntime,
-    began: Instant,
-    blank: Blank,
-    vault: &mut Vault<S>,
-    plan: Plan,
-    times: &mut Times,
-) -> Result<u64, Failed>
-    requires name { blank.name ≡ L.name }
-    requires parts { blank.parts ≡ L.parts }
-    requires enough { blank.parts ≡ PARTS }
-{
-    let mut desk = Desk::<L>::new(rt.alloc(), blank, MARK)?;
-    submit_all(rt, began, &mut desk, vault, plan, times)
-}
-
-fn submit_all<L: Ledger, S: Alter>(
+/// Submits the events of the plan, each of 1 KiB, from this number on, and posts them at this moment.
+pub(crate) fn submit_all<L: Ledger, S: Alter>(
     rt: &HostRuntime,
     began: Instant,
     desk: &mut Desk<L>,
     vault: &mut Vault<S>,
     plan: Plan,
+    (first, now): (u32, Moment),
     times: &mut Times,
-) -> Result<u64, Failed> {
-    let now = Moment::of(1000)?;
-    put_each(rt.alloc(), desk, plan.endpoints)?;
-    commit_waiting(rt, began, desk, vault, &mut Times::ZERO.submissions)?;
+) -> Result<(), Failed> {
+    let end = first.saturating_add(plan.events);
     for round in 0..plan.rounds {
-        let from = round.saturating_mul(plan.pending);
-        let upto = plan.events.min(from.saturating_add(plan.pending));
+        let from = first.saturating_add(round.saturating_mul(plan.pending));
+        let upto = end.min(from.saturating_add(plan.pending));
         submit_and_commit(rt, began, desk, vault, plan.endpoints, (from, upto), times)?;
         disable_each(rt.alloc(), desk, plan.disabled)?;
         commit_waiting(rt, began, desk, vault, &mut Times::ZERO.submissions)?;
         let posts = upto.saturating_sub(from).min(plan.posts);
         deliver(rt, began, desk, vault, (posts, now), times)?;
     }
-    Ok(desk.settled_records())
+    Ok(())
 }
 
 pub(crate) fn put_each<L: Ledger>(
@@ -132,7 +81,7 @@ pub(crate) fn put_each<L: Ledger>(
     count: u32,
 ) -> Result<(), Failed> {
     for number in 0..count {
-        desk.command(put_of(alloc, number)?)?;
+        give(desk, put_of(alloc, number)?)?;
     }
     Ok(())
 }
@@ -140,16 +89,13 @@ pub(crate) fn put_each<L: Ledger>(
 /// Disables so many endpoints, every second one.
 fn disable_each<L: Ledger>(alloc: Global, desk: &mut Desk<L>, count: u32) -> Result<(), Failed> {
     for number in 0..count {
-        desk.command(Command::SetEnabled {
-            name: name_of(alloc, number.saturating_mul(2))?,
-            flag: false,
-        })?;
+        give(desk, disable_of(alloc, number.saturating_mul(2))?)?;
     }
     Ok(())
 }
 
 /// Submits the events with these numbers, and commits them 256 at a time.
-pub(crate) fn submit_and_commit<L: Ledger, S: Alter>(
+fn submit_and_commit<L: Ledger, S: Alter>(
     rt: &HostRuntime,
     began: Instant,
     desk: &mut Desk<L>,
@@ -160,13 +106,9 @@ pub(crate) fn submit_and_commit<L: Ledger, S: Alter>(
 ) -> Result<(), Failed> {
     for batch in 0..upto.saturating_sub(from).div_ceil(BATCH) {
         let first = from.saturating_add(batch.saturating_mul(BATCH));
+        let end = upto.min(first.saturating_add(BATCH));
         let start = since(rt, began);
-        submit_each(
-            rt.alloc(),
-            desk,
-            endpoints,
-            (first, upto.min(first.saturating_add(BATCH))),
-        )?;
+        submit_each(rt.alloc(), desk, endpoints, (first, end))?;
         add(&mut times.staging, start, since(rt, began));
         commit_waiting(rt, began, desk, vault, &mut times.submissions)?;
     }
@@ -191,10 +133,33 @@ fn submit_event<L: Ledger>(
     number: u32,
     endpoints: u32,
 ) -> Result<(), Failed> {
-    let Some(place) = number.checked_rem(endpoints) else {
-        return Err(Failed);
-    };
-    let (name, id) = (name_of(alloc, place)?, id_of(alloc, number)?);
-    desk.submit(Moment::of(1000)?, name, id, body_of(alloc)?)?;
+    let (name, id) = words_of(alloc, number, endpoints)?;
+    submit(alloc, desk, name, id)
+}
+
+/// The endpoint and the id of the event with this number.
+fn words_of(alloc: Global, number: u32, endpoints: u32) -> Result<(Name, MsgId), Failed> {
+    let name = name_of(alloc, place_of(number, endpoints))?;
+    let id = id_of(alloc, scattered(number))?;
+    Ok((name, id))
+}
+
+fn place_of(number: u32, endpoints: u32) -> u32 {
+    if endpoints == 0 {
+        0
+    } else {
+        number % endpoints
+    }
+}
+
+fn submit<L: Ledger>(
+    alloc: Global,
+    desk: &mut Desk<L>,
+    name: Name,
+    id: MsgId,
+) -> Result<(), Failed> {
+    let at = Moment::of(1000)?;
+    let body = body_of(alloc)?;
+    desk.submit(at, name, id, body)?;
     Ok(())
 }

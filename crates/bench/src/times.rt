@@ -1,5 +1,5 @@
 //! How long the parts of a run took.
-use std::io;
+use crate::failed::Failed;
 use std::time::{Duration, Instant};
 
 /// Batches: the desk's sealing and settling, and the store's commits.
@@ -12,7 +12,7 @@ pub(crate) struct BatchTimes {
 /// A run of submissions that are posted once they are settled.
 #[derive(Clone, Copy)]
 pub(crate) struct Times {
-    /// The submissions, with the making of their names, ids and bodies.
+    /// The submissions, with the making of their names, ids and bodies; or the purge.
     pub(crate) staging: Duration,
     /// Their batches.
     pub(crate) submissions: BatchTimes,
@@ -42,8 +42,8 @@ impl Times {
 
 /// The time since a run began; none where the clock can't be read.
 pub(crate) fn since(rt: &HostRuntime, began: Instant) -> Duration {
-    match Instant::now(rt) {
-        Ok(now) => now.duration_since(began),
+    match began.elapsed(rt) {
+        Ok(time) => time,
         Err(_) => Duration::ZERO,
     }
 }
@@ -53,25 +53,10 @@ pub(crate) fn add(total: &mut Duration, from: Duration, upto: Duration) {
     *total = total.saturating_add(upto.saturating_sub(from));
 }
 
-/// Prints what a run of submissions and posts took.
-pub(crate) fn print_times(rt: &HostRuntime, times: &Times) -> io::Result<()> {
-    print_time(rt, "staging", times.staging)?;
-    print_batches(rt, "submissions", &times.submissions)?;
-    print_time(rt, "claiming", times.claiming)?;
-    print_time(rt, "first claims", times.first_claims)?;
-    print_time(rt, "spending", times.spending)?;
-    print_batches(rt, "outcomes", &times.outcomes)
-}
-
-pub(crate) fn print_batches(rt: &HostRuntime, what: &str, times: &BatchTimes) -> io::Result<()> {
-    println!(rt;
-        "{what} sealing {}\n{what} committing {}",
-        times.sealing.as_micros(),
-        times.committing.as_micros()
-    )
-}
-
-/// Prints what a part of a run took.
-pub(crate) fn print_time(rt: &HostRuntime, part: &str, taken: Duration) -> io::Result<()> {
-    println!(rt; "{part} {}", taken.as_micros())
+/// Prints a line for each number, after its word.
+pub(crate) fn print_lines(rt: &HostRuntime, lines: &[(&str, u128)]) -> Result<(), Failed> {
+    for (word, number) in lines {
+        println!(rt; "{word} {number}")?;
+    }
+    Ok(())
 }
