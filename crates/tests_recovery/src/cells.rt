@@ -2,10 +2,9 @@
 ghost use Rattle.std.specs.Prelude.{◌<◌};
 
 use crate::draws::Numbers;
-use crate::given::Text;
-use crate::histories::{Way, after, history};
+use crate::histories::{Way, history, unchanged};
 use crate::sound::refusal_of;
-use crate::stores::{all_rows, number};
+use crate::stores::count;
 use sqlite::{Alter, Connection, MemStore, Row};
 use std::alloc::Global;
 use std::process::Abort;
@@ -87,7 +86,7 @@ struct Change {
     new: Row,
 }
 
-/// What is asked of the row at this place of the table.
+/// What is asked of the row at this place of the table, and its rowid.
 fn row_at<S: Alter>(
     rt: &impl Abort,
     alloc: Global,
@@ -95,15 +94,15 @@ fn row_at<S: Alter>(
     (table, what, place): (&str, &str, u64),
 ) -> Row {
     let sql = format!(in alloc;
-        "SELECT {what} FROM {table} ORDER BY rowid LIMIT 1 OFFSET {place}"
+        "SELECT {what}, rowid FROM {table} ORDER BY rowid LIMIT 1 OFFSET {place}"
     ).expect(rt, "memory");
     conn.query_row(&sql, &[]).expect(rt, "a row")
 }
 
 /// How many rows the table has.
-fn count<S: Alter>(rt: &impl Abort, alloc: Global, conn: &mut Connection<S>, table: &str) -> u64 {
+fn rows<S: Alter>(rt: &impl Abort, alloc: Global, conn: &mut Connection<S>, table: &str) -> u64 {
     let sql = format!(in alloc; "SELECT count(*) FROM {table}").expect(rt, "memory");
-    u64::try_from(number(rt, conn, &sql)).expect(rt, "a count")
+    count(rt, conn, &sql)
 }
 
 /// Whether the cell has this value now. The schema may refuse it.
@@ -124,12 +123,12 @@ fn set<S: Alter>(
 
 /// What a cell of this column is to be, by the column of another row.
 fn draw_value(rt: &impl Abort, alloc: Global, numbers: &mut Numbers, column: &str) -> String {
-    if numbers.below(2) == 0 {
-        let far = FAR[numbers.below(20) as usize];
-        return String::from_str(alloc, far).expect(rt, "memory");
-    }
-    let near = NEAR[numbers.below(4) as usize];
-    format!(in alloc; "{column}{near}").expect(rt, "memory")
+    let (value, more) = if numbers.below(2) == 0 {
+        (FAR[numbers.below(20) as usize], "")
+    } else {
+        (column, NEAR[numbers.below(4) as usize])
+    };
+    format!(in alloc; "{value}{more}").expect(rt, "memory")
 }
 
 /// A change of a cell of this column, whose table has so many rows.
@@ -145,10 +144,8 @@ fn draw_cell<S: Alter>(
 {
     let Column(table, name) = column;
     let (place, other) = (numbers.below(rows), numbers.below(rows));
-    let rowid = row_at(rt, alloc, conn, (table, "rowid", place))
-        .get(0)
-        .expect(rt, "a rowid");
     let old = row_at(rt, alloc, conn, (table, name, place));
+    let rowid = old.get(1).expect(rt, "a rowid");
     let value = draw_value(rt, alloc, numbers, name);
     let new = row_at(rt, alloc, conn, (table, &value, other));
     let cell = Cell { column, rowid };
@@ -163,7 +160,7 @@ fn draw_change<S: Alter>(
     numbers: &mut Numbers,
 ) -> Option<Change> {
     let column = COLUMNS[numbers.below(28) as usize];
-    let rows = count(rt, alloc, conn, column.0);
+    let rows = rows(rt, alloc, conn, column.0);
     if rows == 0 {
         return None;
     }
@@ -178,11 +175,7 @@ fn changed<S: Alter>(
     numbers: &mut Numbers,
 ) -> Option<Change> {
     let change = draw_change(rt, alloc, conn, numbers)?;
-    if set(rt, alloc, conn, change.cell, &change.new) {
-        Some(change)
-    } else {
-        None
-    }
+    set(rt, alloc, conn, change.cell, &change.new).then_some(change)
 }
 
 /// The cell that was changed, which may have another rowid now.
@@ -228,11 +221,7 @@ fn check_answer(
 ) -> Connection<MemStore> {
     let mut conn = conn;
     let refusal = refusal_of(rt, &mut conn);
-    let before = all_rows(rt, alloc, &mut conn);
-    let mut text = Text::new(alloc);
-    let mut conn = after(rt, alloc, Way::Tried, conn, numbers, &mut text);
-    assert!(rt; text.is(refusal), "{refusal}");
-    assert!(rt; all_rows(rt, alloc, &mut conn).as_str() == before.as_str());
+    let conn = unchanged(rt, alloc, Way::Tried, conn, numbers, refusal);
     told.add(refusal.is_empty());
     conn
 }

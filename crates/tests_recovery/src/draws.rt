@@ -159,10 +159,8 @@ fn publish<L: Ledger>(
 }
 
 fn answered(rt: &impl Abort, number: u16, rtt: u64) -> PostResult {
-    match Status::of(number) {
-        Some(status) => PostResult::Answered { status, rtt },
-        None => panic!(rt; "{number} is no status"),
-    }
+    let status = Status::of(number).expect(rt, "a status");
+    PostResult::Answered { status, rtt }
 }
 
 /// One post in twelve delivers.
@@ -185,10 +183,8 @@ fn draw_post(rt: &impl Abort, numbers: &mut Numbers) -> PostResult {
 /// Makes the next attempt, where there is one.
 fn attempt<L: Ledger>(rt: &impl Abort, desk: &mut Desk<L>, numbers: &mut Numbers, now: Moment) {
     let post = draw_post(rt, numbers);
-    match desk.claim(now) {
-        Ok(Some(job)) => spend(rt, desk, job.into_permit(), post, now),
-        Ok(None) => {}
-        Err(_) => panic!(rt; "a claim was refused"),
+    if let Some(job) = desk.claim(now).expect(rt, "a claim") {
+        spend(rt, desk, job.into_permit(), post, now);
     }
 }
 

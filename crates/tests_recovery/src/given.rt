@@ -12,14 +12,12 @@ use std::sync::ledger::Ledger;
 /// A text that is added to.
 #[derive(Drop)]
 pub(crate) struct Text {
-    alloc: Global,
     pub(crate) told: String,
 }
 
 impl Text {
     pub(crate) fn new(alloc: Global) -> Text {
         Text {
-            alloc,
             told: String::new(alloc),
         }
     }
@@ -29,13 +27,11 @@ impl Text {
     }
 
     fn add_number(&mut self, rt: &impl Abort, what: &str, number: u64) {
-        let told = format!(in self.alloc; "{what} {number} ").expect(rt, "memory");
-        self.add(rt, &told);
+        write!(self.told, "{what} {number} ").expect(rt, "memory");
     }
 
     pub(crate) fn add_fault(&mut self, rt: &impl Abort, fault: OpenFault) {
-        let told = format!(in self.alloc; "{fault}").expect(rt, "memory");
-        self.add(rt, &told);
+        write!(self.told, "{fault}").expect(rt, "memory");
     }
 
     pub(crate) fn is(&self, told: &str) -> bool {
@@ -43,8 +39,7 @@ impl Text {
     }
 
     fn add_bytes(&mut self, rt: &impl Abort, what: &str, bytes: &[u8]) {
-        let told = format!(in self.alloc; "{what} {bytes:?} ").expect(rt, "memory");
-        self.add(rt, &told);
+        write!(self.told, "{what} {bytes:?} ").expect(rt, "memory");
     }
 }
 
@@ -81,19 +76,15 @@ pub(crate) fn spend<L: Ledger>(
 ) {
     match desk.spend(permit, post, now) {
         Ok(_) => {}
-        Err((permit, Foreign)) => panic!(rt; "{} is foreign", permit.delivery()),
+        Err((_permit, Foreign)) => panic!(rt; "the permit is foreign"),
     }
 }
 
 /// Makes the next attempt at this moment, if there is one. It reaches nobody.
 fn add_next<L: Ledger>(rt: &impl Abort, desk: &mut Desk<L>, now: Moment, text: &mut Text) {
-    match desk.claim(now) {
-        Ok(Some(job)) => {
-            add_job(rt, text, &job);
-            spend(rt, desk, job.into_permit(), PostResult::Unreached, now);
-        }
-        Ok(None) => {}
-        Err(_) => panic!(rt; "a claim was refused"),
+    if let Some(job) = desk.claim(now).expect(rt, "a claim") {
+        add_job(rt, text, &job);
+        spend(rt, desk, job.into_permit(), PostResult::Unreached, now);
     }
 }
 

@@ -3,8 +3,9 @@ ghost use Rattle.std.specs.Prelude.{◌≡◌, ◌<◌};
 
 use crate::draws::{Numbers, draw};
 use crate::given::{Text, add_given, spend};
+use crate::openings::let_go;
 use crate::pages::{check_limits, check_pages, latest};
-use crate::stores::{MARK, again, all_rows, in_memory, number};
+use crate::stores::{MARK, again, all_rows, count, in_memory};
 use desk::Desk;
 use permits::{PARTS, Pool};
 use recovery::{create, reopen};
@@ -33,14 +34,10 @@ pub(crate) enum Way {
 /// Whether the clock stands at the latest moment in the rows, where an attempt is due then. It isn't sent.
 fn check_clock<L: Ledger>(rt: &impl Abort, desk: &mut Desk<L>, latest: u64) {
     let start = Moment::of(0).expect(rt, "a moment");
-    match desk.claim(start) {
-        Ok(Some(job)) => {
-            let at = job.moment().seconds();
-            spend(rt, desk, job.into_permit(), PostResult::Unsent, start);
-            assert!(rt; at == latest, "at {at}");
-        }
-        Ok(None) => {}
-        Err(_) => panic!(rt; "a claim was refused"),
+    if let Some(job) = desk.claim(start).expect(rt, "a claim") {
+        let at = job.moment().seconds();
+        spend(rt, desk, job.into_permit(), PostResult::Unsent, start);
+        assert!(rt; at == latest, "at {at}");
     }
 }
 
@@ -125,6 +122,7 @@ fn visit<L: Ledger, S: Alter>(
             draw_where_asked(rt, alloc, way, &mut desk, &mut vault, numbers);
             let mut conn = vault.release();
             check_desk(rt, alloc, way, &mut desk, &mut conn, text);
+            let_go(desk);
             conn
         }
         Err((conn, fault)) => {
@@ -135,7 +133,7 @@ fn visit<L: Ledger, S: Alter>(
 }
 
 /// What comes of the store, opened over again, on this way: the store, and what the desk gave, or the refusal.
-pub(crate) fn after(
+fn after(
     rt: &impl Abort,
     alloc: Global,
     way: Way,
@@ -148,6 +146,26 @@ pub(crate) fn after(
     again(rt, alloc, conn)
 }
 
+/// The store after it was opened on this way, which gives this text and leaves the rows as they were.
+pub(crate) fn unchanged(
+    rt: &impl Abort,
+    alloc: Global,
+    way: Way,
+    conn: Connection<MemStore>,
+    numbers: &mut Numbers,
+    wanted: &str,
+) -> Connection<MemStore> {
+    let mut conn = conn;
+    let before = all_rows(rt, alloc, &mut conn);
+    let mut text = Text::new(alloc);
+    let mut conn = after(rt, alloc, way, conn, numbers, &mut text);
+    let rows = all_rows(rt, alloc, &mut conn);
+    let first = numbers.first;
+    assert!(rt; text.is(wanted), "from {first}");
+    assert!(rt; rows.as_str() == before.as_str(), "from {first}");
+    conn
+}
+
 /// The store after random calls. A desk of its rows gives what the one gave that made them, and leaves the rows as they
 /// were.
 fn drawn(
@@ -157,15 +175,9 @@ fn drawn(
     conn: Connection<MemStore>,
     numbers: &mut Numbers,
 ) -> Connection<MemStore> {
-    let (mut given, mut then) = (Text::new(alloc), Text::new(alloc));
-    let mut conn = after(rt, alloc, way, conn, numbers, &mut given);
-    let before = all_rows(rt, alloc, &mut conn);
-    let mut conn = after(rt, alloc, Way::Opened, conn, numbers, &mut then);
-    let rows = all_rows(rt, alloc, &mut conn);
-    let first = numbers.first;
-    assert!(rt; then.is(&given.told), "from {first}");
-    assert!(rt; rows.as_str() == before.as_str(), "from {first}");
-    conn
+    let mut given = Text::new(alloc);
+    let conn = after(rt, alloc, way, conn, numbers, &mut given);
+    unchanged(rt, alloc, Way::Opened, conn, numbers, &given.told)
 }
 
 /// Adds a topic of one of the endpoints by SQL, after up to two records that no row names.
@@ -180,44 +192,37 @@ fn add_topic<S: Alter>(
     requires { 0 < endpoints }
 {
     let place = numbers.below(endpoints);
-    let sql = format!(in alloc;
-        "SELECT put FROM endpoints ORDER BY put LIMIT 1 OFFSET {place}"
-    ).expect(rt, "memory");
-    let put = number(rt, conn, &sql);
-    let records = number(rt, conn, "SELECT records FROM meta");
     let (flag, others) = (numbers.below(2), numbers.below(3));
     let sql = format!(in alloc;
-        "INSERT INTO topics VALUES('t{topic}', {put}, {flag}, {records} + {others}); \
-         UPDATE meta SET records = {records} + {others} + 1"
+        "INSERT INTO topics SELECT 't{topic}', put, {flag}, records + {others} FROM endpoints, meta \
+         ORDER BY put LIMIT 1 OFFSET {place}; \
+         UPDATE meta SET records = records + {others} + 1"
     )
     .expect(rt, "memory");
     conn.execute_batch(&sql).expect(rt, "a topic");
 }
 
-/// The store with up to three topics more, if it has endpoints.
-fn subscribed<S: Alter>(
+/// Adds up to three topics, if there are endpoints.
+fn add_topics<S: Alter>(
     rt: &impl Abort,
     alloc: Global,
-    conn: Connection<S>,
+    conn: &mut Connection<S>,
     numbers: &mut Numbers,
-) -> Connection<S> {
-    let mut conn = conn;
-    let count = number(rt, &mut conn, "SELECT count(*) FROM endpoints");
-    let endpoints = u64::try_from(count).expect(rt, "a count");
+) {
+    let endpoints = count(rt, conn, "SELECT count(*) FROM endpoints");
     if endpoints == 0 {
-        return conn;
+        return;
     }
     for topic in 0..numbers.below(4) {
-        add_topic(rt, alloc, &mut conn, numbers, endpoints, topic);
+        add_topic(rt, alloc, conn, numbers, endpoints, topic);
     }
-    conn
 }
 
 /// The store of a history that is drawn from this number. Its desk was opened again half way, where topics were added.
 pub(crate) fn history(rt: &impl Abort, alloc: Global, first: u64) -> Connection<MemStore> {
     let mut numbers = Numbers::from(first);
-    let conn = drawn(rt, alloc, Way::Begun, in_memory(rt, alloc), &mut numbers);
-    let conn = subscribed(rt, alloc, conn, &mut numbers);
+    let mut conn = drawn(rt, alloc, Way::Begun, in_memory(rt, alloc), &mut numbers);
+    add_topics(rt, alloc, &mut conn, &mut numbers);
     drawn(rt, alloc, Way::GoneOn, conn, &mut numbers)
 }
 

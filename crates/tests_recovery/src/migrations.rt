@@ -4,7 +4,7 @@ ghost use Rattle.std.specs.Prelude.{◌≡◌};
 
 use crate::conditions::{DAMAGED, ENDPOINT, EVENT};
 use crate::openings::{
-    ATTEMPTED, Start, adopted, look, made, migrated, pool_of, reopened, same_text,
+    ATTEMPTED, Start, check_adopt, check_migrate, check_reopen, look, made, pool_of, same_text,
 };
 use crate::stores::{Count, again};
 use permits::PARTS;
@@ -531,7 +531,7 @@ fn other_versions_are_only_read(rt: HostRuntime) {
 }
 
 /// Whether the vault answers so, and writes nothing.
-fn check_adopt<S: Alter>(
+fn check_read<S: Alter>(
     rt: &impl Abort,
     alloc: Global,
     conn: Connection<S>,
@@ -540,28 +540,13 @@ fn check_adopt<S: Alter>(
 ) -> Connection<S> {
     let mut conn = conn;
     let before = look(rt, alloc, &mut conn, CHANGED, &[]);
-    let (text, conn) = adopted(rt, alloc, conn);
-    same_text(rt, &text, wanted, place);
-    let mut conn = conn;
+    let mut conn = check_adopt(rt, alloc, conn, wanted, place);
     same_text(
         rt,
         &look(rt, alloc, &mut conn, CHANGED, &[]),
         &before,
         place,
     );
-    conn
-}
-
-/// Whether the store is migrated with this answer.
-fn check_migrate<S: Alter>(
-    rt: &impl Abort,
-    alloc: Global,
-    conn: Connection<S>,
-    wanted: &str,
-    place: usize,
-) -> Connection<S> {
-    let (text, conn) = migrated(rt, alloc, conn);
-    same_text(rt, &text, wanted, place);
     conn
 }
 
@@ -584,7 +569,7 @@ fn check_migrated<S: Alter>(
 fn check_vault(rt: &impl Abort, alloc: Global, old: &Old, rows: &[&str], place: usize) {
     let mut conn = made(rt, alloc, Start::First, old.0);
     let before = look(rt, alloc, &mut conn, rows, &[]);
-    let conn = check_adopt(rt, alloc, conn, old.1, place);
+    let conn = check_read(rt, alloc, conn, old.1, place);
     let conn = check_migrate(rt, alloc, conn, old.2, place);
     let mut conn = check_migrated(rt, alloc, again(rt, alloc, conn), old, place);
     same_text(rt, &look(rt, alloc, &mut conn, rows, &[]), &before, place);
@@ -607,9 +592,7 @@ fn check_desk<L: Ledger, S: Alter + Drop>(
     let pool = pool_of::<L>(rt, alloc, blank);
     let mut conn = conn;
     let before = look(rt, alloc, &mut conn, rows, &[]);
-    let (text, conn) = reopened(rt, alloc, pool, conn);
-    same_text(rt, &text, old.2, place);
-    let mut conn = conn;
+    let mut conn = check_reopen(rt, alloc, pool, conn, old.2, place);
     same_text(rt, &look(rt, alloc, &mut conn, rows, old.3), &before, place);
 }
 

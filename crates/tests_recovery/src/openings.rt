@@ -1,8 +1,7 @@
 //! Stores whose rows anyone may have written, and what their opening answers.
 ghost use Rattle.std.specs.Prelude.{◌≡◌, []};
 
-use crate::conditions::ENDPOINT;
-use crate::stores::{Count, MARK, again, count_all, rows_of};
+use crate::stores::{Count, MARK, TABLES, again, count_all, in_memory, rows_of};
 use delivery_book::Row;
 use desk::{Command, Desk, Fault, Refusal};
 use permits::{PARTS, Pool};
@@ -29,10 +28,14 @@ pub(crate) enum Start {
     First,
     /// Those of an endpoint, an event with so many bytes and an attempt at it.
     Body(usize),
-    /// Those of so many endpoints with a secret each.
-    Endpoints(u32),
-    /// Those of an endpoint that is subscribed to so many topics.
-    Topics(u32),
+}
+
+/// The queries that tell all of a store.
+#[derive(Clone, Copy)]
+pub(crate) enum Queries {
+    /// All rows, table by table. Not written out in each file: the proof of a test reads all of its files.
+    Rows,
+    These(&'static [&'static str]),
 }
 
 /// What is in a store, the queries that tell all of it, what its opening answers, and numbers that
@@ -40,20 +43,12 @@ pub(crate) enum Start {
 pub(crate) struct File(
     pub Start,
     pub &'static [&'static str],
-    pub &'static [&'static str],
+    pub Queries,
     pub &'static str,
     pub &'static [Count],
 );
 
-/// All rows, table by table.
-pub(crate) const ROWS: &[&str] = &[
-    "SELECT * FROM meta",
-    "SELECT * FROM endpoints",
-    "SELECT * FROM secrets",
-    "SELECT * FROM deliveries",
-    "SELECT * FROM attempts",
-    "SELECT * FROM topics",
-];
+pub(crate) const ROWS: Queries = Queries::Rows;
 
 /// What a relay executed that made tables of version 1.
 const FIRST: &str = "CREATE TABLE meta(k INTEGER PRIMARY KEY CHECK(k = 1), app TEXT NOT NULL, \
@@ -78,123 +73,51 @@ pub(crate) const ATTEMPTED: &str =
      INSERT INTO attempts VALUES(2, 1, 1, 500, 1001); \
      UPDATE meta SET records = 3";
 
-fn fill_body<S: Alter>(alloc: Global, conn: &mut Connection<S>, len: usize) -> Result<(), Fail> {
-    let mut bytes = Vec::with_capacity(alloc, len)?;
-    for _ in 0..len {
-        bytes.push(b'a')?;
-    }
-    let value = ValueRef::Blob(bytes.as_slice());
-    conn.execute("UPDATE deliveries SET body = ?1", &[value])?;
-    Ok(())
-}
-
-fn with_endpoints(alloc: Global, count: u32) -> Result<String, Fail> {
-    let mut text = format!(in alloc; "BEGIN; UPDATE meta SET records = {count}")?;
-    for n in 0..count {
-        let row = format!(in alloc;
-            "; INSERT INTO endpoints VALUES({n}, 'e{n}', 'http://h/', 100, 1, {n}, {n}); \
-             INSERT INTO secrets VALUES({n}, 0, x'303132333435363738396162636465663031323334353637')"
-        )?;
-        text.push_str(&row)?;
-    }
-    text.push_str("; COMMIT")?;
-    Ok(text)
-}
-
-fn add_topic<S: Alter>(alloc: Global, conn: &mut Connection<S>, number: u32) -> Result<(), Fail> {
-    let topic = format!(in alloc; "t{number}")?;
-    let values = [
-        ValueRef::Text(topic.as_bytes()),
-        ValueRef::Int(i64::from(number)),
-    ];
-    conn.execute("INSERT INTO topics VALUES(?1, 0, 1, ?2 + 1)", &values)?;
-    Ok(())
-}
-
-fn fill_topics<S: Alter>(alloc: Global, conn: &mut Connection<S>, count: u32) -> Result<(), Fail> {
-    run(conn, ENDPOINT)?;
-    run(conn, "BEGIN")?;
-    for number in 0..count {
-        add_topic(alloc, conn, number)?;
-    }
-    let text = format!(in alloc; "UPDATE meta SET records = {count} + 1; COMMIT")?;
-    run(conn, &text)
-}
-
-fn run<S: Alter>(conn: &mut Connection<S>, text: &str) -> Result<(), Fail> {
-    Ok(conn.execute_batch(text)?)
-}
-
-fn fill_endpoints<S: Alter>(
-    alloc: Global,
-    conn: &mut Connection<S>,
-    count: u32,
-) -> Result<(), Fail> {
-    let text = with_endpoints(alloc, count)?;
-    run(conn, &text)
-}
-
-fn fill_start<S: Alter>(alloc: Global, conn: &mut Connection<S>, start: Start) -> Result<(), Fail> {
-    match start {
-        Start::Nothing | Start::Ours => Ok(()),
-        Start::First => run(conn, FIRST),
-        Start::Body(len) => {
-            run(conn, ATTEMPTED)?;
-            fill_body(alloc, conn, len)
-        }
-        Start::Endpoints(count) => fill_endpoints(alloc, conn, count),
-        Start::Topics(count) => fill_topics(alloc, conn, count),
-    }
-}
-
-fn fill<S: Alter>(
-    alloc: Global,
-    conn: &mut Connection<S>,
-    start: Start,
-    texts: &[&str],
-) -> Result<(), Fail> {
-    fill_start(alloc, conn, start)?;
-    for text in texts {
-        run(conn, text)?;
-    }
-    Ok(())
-}
-
-/// The store with what stands in it first, in which the texts were executed.
-fn filled<S: Alter + Drop>(
-    alloc: Global,
-    conn: Connection<S>,
-    start: Start,
-    texts: &[&str],
-) -> Result<Connection<S>, Fail> {
+/// The store in which the texts were executed.
+fn filled<S: Alter>(rt: &impl Abort, conn: Connection<S>, texts: &[&str]) -> Connection<S> {
     let mut conn = conn;
-    fill(alloc, &mut conn, start, texts)?;
-    Ok(conn)
+    for text in texts {
+        conn.execute_batch(text).expect(rt, "a text");
+    }
+    conn
 }
 
 /// The store of a new vault.
-fn created<S: Alter + Drop>(conn: Connection<S>) -> Result<Connection<S>, Fail> {
-    if !conn.is_autocommit() {
-        return Err(Fail::from("a transaction is open"));
-    }
+fn created<S: Alter>(rt: &impl Abort, conn: Connection<S>) -> Connection<S> {
+    assert!(rt; conn.is_autocommit());
     match Vault::create(conn, MARK) {
-        Ok(vault) => Ok(vault.release()),
-        Err((_, _)) => Err(Fail::from("create was refused")),
+        Ok(vault) => vault.release(),
+        Err((_, _)) => panic!(rt; "create was refused"),
     }
 }
 
-fn begun(alloc: Global, start: Start) -> Result<Connection<MemStore>, Fail> {
-    let conn = Connection::open_in_memory(alloc)?;
+/// The store with an attempt at an event of so many bytes.
+fn with_body<S: Alter>(
+    rt: &impl Abort,
+    alloc: Global,
+    conn: Connection<S>,
+    len: usize,
+) -> Connection<S> {
+    let mut conn = filled(rt, conn, &[ATTEMPTED]);
+    let mut bytes = Vec::new(alloc);
+    bytes.resize(len, b'a').expect(rt, "memory");
+    let value = ValueRef::Blob(bytes.as_slice());
+    conn.execute("UPDATE deliveries SET body = ?1", &[value])
+        .expect(rt, "a body");
+    conn
+}
+
+fn begun<S: Alter>(
+    rt: &impl Abort,
+    alloc: Global,
+    conn: Connection<S>,
+    start: Start,
+) -> Connection<S> {
     match start {
-        Start::Nothing | Start::First => Ok(conn),
-        _ => created(conn),
-    }
-}
-
-fn text_or_abort(rt: &impl Abort, text: Result<String, Fail>) -> String {
-    match text {
-        Ok(text) => text,
-        Err(_) => panic!(rt; "no text"),
+        Start::Nothing => conn,
+        Start::Ours => created(rt, conn),
+        Start::First => filled(rt, conn, &[FIRST]),
+        Start::Body(len) => with_body(rt, alloc, created(rt, conn), len),
     }
 }
 
@@ -214,8 +137,12 @@ pub(crate) fn same_text(rt: &impl Abort, found: &str, wanted: &str, place: usize
     assert!(rt; found == wanted, "{found} at {place}");
 }
 
-fn name_of(letter: u8) -> Result<Name, Fail> {
-    Ok(Name::read(&[letter])?)
+fn name_of(rt: &impl Abort, letter: u8) -> Name {
+    Name::read(&[letter]).expect(rt, "a name")
+}
+
+fn id_of(rt: &impl Abort, text: &str) -> MsgId {
+    MsgId::read(text.as_bytes()).expect(rt, "an id")
 }
 
 fn body_of(alloc: Global, bytes: &[u8]) -> Result<Body, Fail> {
@@ -223,40 +150,45 @@ fn body_of(alloc: Global, bytes: &[u8]) -> Result<Body, Fail> {
     Ok(Body::of(Arc::new(alloc, bytes)?)?)
 }
 
+fn add_event(rt: &impl Abort, text: &mut String, event: Row) {
+    let state = match event.state {
+        State::Pending => "pending",
+        State::Delivered => "delivered",
+        State::Exhausted => "exhausted",
+    };
+    let (due, attempts) = (event.due.unwrap_or(0), event.attempts);
+    write!(text, " {state} due {due} attempts {attempts}").expect(rt, "memory");
+}
+
 /// How many records there are, whether endpoint `a` is enabled, and its event `msg_1`.
 fn text_of(
+    rt: &impl Abort,
     alloc: Global,
     records: u64,
     enabled: Option<bool>,
     event: Option<Row>,
-) -> Result<String, Fail> {
+) -> String {
     let endpoint = match enabled {
         Some(true) => " enabled",
         Some(false) => " disabled",
         None => "",
     };
-    let Some(row) = event else {
-        return Ok(format!(in alloc; "records {records}{endpoint}")?);
-    };
-    let state = match row.state {
-        State::Pending => "pending",
-        State::Delivered => "delivered",
-        State::Exhausted => "exhausted",
-    };
-    let due = row.due.unwrap_or(0);
-    let attempts = row.attempts;
-    Ok(format!(in alloc; "records {records}{endpoint} {state} due {due} attempts {attempts}")?)
+    let mut text = format!(in alloc; "records {records}{endpoint}").expect(rt, "memory");
+    if let Some(event) = event {
+        add_event(rt, &mut text, event);
+    }
+    text
 }
 
 /// What the desk shows of what is settled.
-fn shown<L: Ledger>(alloc: Global, desk: &Desk<L>) -> Result<String, Fail> {
-    let a = name_of(b'a')?;
+fn shown<L: Ledger>(rt: &impl Abort, alloc: Global, desk: &Desk<L>) -> String {
+    let a = name_of(rt, b'a');
     let enabled = match desk.endpoint_page(a) {
         Some(page) => Some(page.enabled),
         None => None,
     };
-    let event = desk.event_page(a, &MsgId::read(b"msg_1")?);
-    text_of(alloc, desk.settled_records(), enabled, event)
+    let event = desk.event_page(a, &id_of(rt, "msg_1"));
+    text_of(rt, alloc, desk.settled_records(), enabled, event)
 }
 
 fn event_in(books: &Books, name: Name, id: &MsgId) -> Option<Row> {
@@ -266,81 +198,92 @@ fn event_in(books: &Books, name: Name, id: &MsgId) -> Option<Row> {
     }
 }
 
-fn listed(alloc: Global, books: &Books) -> Result<String, Fail> {
-    let a = name_of(b'a')?;
+fn listed(rt: &impl Abort, alloc: Global, books: &Books) -> String {
+    let a = name_of(rt, b'a');
     let enabled = match books.endpoints.settled(a) {
         Some(view) => Some(view.enabled),
         None => None,
     };
-    let event = event_in(books, a, &MsgId::read(b"msg_1")?);
-    text_of(alloc, books.records, enabled, event)
+    let event = event_in(books, a, &id_of(rt, "msg_1"));
+    text_of(rt, alloc, books.records, enabled, event)
 }
 
-fn loaded<S: Alter>(alloc: Global, vault: &mut Vault<S>) -> Result<String, Fail> {
+fn loaded<S: Alter>(rt: &impl Abort, alloc: Global, vault: &mut Vault<S>) -> String {
     match vault.load(alloc) {
-        Ok(books) => listed(alloc, &books),
-        Err(_) => Err(Fail::from("the load was refused")),
+        Ok(books) => listed(rt, alloc, &books),
+        Err(_) => panic!(rt; "the load was refused"),
     }
 }
 
-fn fault_of(alloc: Global, fault: OpenFault) -> Result<String, Fail> {
-    Ok(format!(in alloc; "{fault}")?)
+fn check_fault(rt: &impl Abort, alloc: Global, fault: OpenFault, wanted: &str, place: usize) {
+    let text = format!(in alloc; "{fault}").expect(rt, "memory");
+    same_text(rt, &text, wanted, place);
 }
 
-type Back<S> = (Connection<S>, OpenFault);
-
-/// What the vault lists, or why there is none.
-fn listed_or_fault<S: Alter>(
+/// Whether the vault lists this, or there is none for this fault.
+fn check_opening<S: Alter>(
     rt: &impl Abort,
     alloc: Global,
-    opening: Result<Vault<S>, Back<S>>,
-) -> (String, Connection<S>) {
+    opening: Result<Vault<S>, (Connection<S>, OpenFault)>,
+    wanted: &str,
+    place: usize,
+) -> Connection<S> {
     match opening {
         Ok(vault) => {
             let mut vault = vault;
-            let text = text_or_abort(rt, loaded(alloc, &mut vault));
-            (text, vault.release())
+            same_text(rt, &loaded(rt, alloc, &mut vault), wanted, place);
+            vault.release()
         }
-        Err((conn, fault)) => (text_or_abort(rt, fault_of(alloc, fault)), conn),
+        Err((conn, fault)) => {
+            check_fault(rt, alloc, fault, wanted, place);
+            conn
+        }
     }
 }
 
-/// What the vault of the store lists, or why there is none.
-pub(crate) fn adopted<S: Alter>(
+/// Whether the vault of the store lists this, or there is none for this fault.
+pub(crate) fn check_adopt<S: Alter>(
     rt: &impl Abort,
     alloc: Global,
     conn: Connection<S>,
-) -> (String, Connection<S>) {
+    wanted: &str,
+    place: usize,
+) -> Connection<S> {
     assert!(rt; conn.is_autocommit());
-    listed_or_fault(rt, alloc, Vault::adopt(conn, MARK, alloc))
+    let opening = Vault::adopt(conn, MARK, alloc);
+    check_opening(rt, alloc, opening, wanted, place)
 }
 
 /// The same once its tables are of version 2.
-pub(crate) fn migrated<S: Alter>(
+pub(crate) fn check_migrate<S: Alter>(
     rt: &impl Abort,
     alloc: Global,
     conn: Connection<S>,
-) -> (String, Connection<S>) {
+    wanted: &str,
+    place: usize,
+) -> Connection<S> {
     assert!(rt; conn.is_autocommit());
-    listed_or_fault(rt, alloc, Vault::migrate(conn, MARK, alloc))
+    let opening = Vault::migrate(conn, MARK, alloc);
+    check_opening(rt, alloc, opening, wanted, place)
 }
 
-fn submitted<L: Ledger>(alloc: Global, desk: &mut Desk<L>) -> Result<Option<Refusal>, Fail> {
-    let name = name_of(b'a')?;
-    let id = MsgId::read(b"msg_1")?;
-    let at = Moment::of(1000)?;
-    let body = body_of(alloc, b"{}")?;
-    Ok(desk.submit(at, name, id, body).err())
+fn submitted<L: Ledger>(rt: &impl Abort, alloc: Global, desk: &mut Desk<L>) -> Option<Refusal> {
+    let at = Moment::of(1000).expect(rt, "a moment");
+    let (name, id) = (name_of(rt, b'a'), id_of(rt, "msg_1"));
+    match body_of(alloc, b"{}") {
+        Ok(body) => desk.submit(at, name, id, body).err(),
+        Err(_) => panic!(rt; "no body"),
+    }
 }
 
-fn commanded<L: Ledger>(desk: &mut Desk<L>) -> Result<Option<Refusal>, Fail> {
-    let name = name_of(b'a')?;
-    Ok(desk.command(Command::SetEnabled { name, flag: true }).err())
+fn commanded<L: Ledger>(rt: &impl Abort, desk: &mut Desk<L>) -> Option<Refusal> {
+    let name = name_of(rt, b'a');
+    desk.command(Command::SetEnabled { name, flag: true }).err()
 }
 
-fn purged<L: Ledger>(desk: &mut Desk<L>) -> Result<Option<Refusal>, Fail> {
-    let before = Moment::of(0)?;
-    Ok(desk.command(Command::Purge { before }).err())
+fn purged<L: Ledger>(rt: &impl Abort, desk: &mut Desk<L>) -> Option<Refusal> {
+    let before = Moment::of(0).expect(rt, "a moment");
+    desk.command(Command::Purge { before }).err()
 }
 
 fn is_exhausted(refusal: Option<Refusal>, number: u8) -> bool {
@@ -351,38 +294,47 @@ fn is_exhausted(refusal: Option<Refusal>, number: u8) -> bool {
 }
 
 /// Whether the desk refuses an event and two commands as it has no number left.
-fn is_full<L: Ledger>(alloc: Global, desk: &mut Desk<L>) -> Result<bool, Fail> {
-    let event = submitted(alloc, desk)?;
-    let command = commanded(desk)?;
-    let purge = purged(desk)?;
-    Ok(is_exhausted(event, 7) && is_exhausted(command, 6) && is_exhausted(purge, 6))
+fn is_full<L: Ledger>(rt: &impl Abort, alloc: Global, desk: &mut Desk<L>) -> bool {
+    let event = submitted(rt, alloc, desk);
+    let command = commanded(rt, desk);
+    let purge = purged(rt, desk);
+    is_exhausted(event, 7) && is_exhausted(command, 6) && is_exhausted(purge, 6)
 }
 
 /// What the desk shows. One that is full takes nothing more.
-fn tried<L: Ledger>(alloc: Global, desk: &mut Desk<L>) -> Result<String, Fail> {
-    if desk.settled_records() == MAX_RECORDS && !is_full(alloc, desk)? {
-        return Err(Fail::from("a full desk takes more"));
+fn tried<L: Ledger>(rt: &impl Abort, alloc: Global, desk: &mut Desk<L>) -> String {
+    if desk.settled_records() == MAX_RECORDS {
+        assert!(rt; is_full(rt, alloc, desk), "a full desk takes more");
     }
-    shown(alloc, desk)
+    shown(rt, alloc, desk)
 }
 
-/// What the desk of the store shows, or why there is none.
-pub(crate) fn reopened<L: Ledger, S: Alter>(
+/// Dropped here alone: the proof of each function that drops a desk is long.
+pub(crate) fn let_go<L: Ledger>(_desk: Desk<L>) {}
+
+/// Whether the desk of the store shows this, or there is none for this fault.
+pub(crate) fn check_reopen<L: Ledger, S: Alter>(
     rt: &impl Abort,
     alloc: Global,
     pool: Pool<L>,
     conn: Connection<S>,
-) -> (String, Connection<S>)
+    wanted: &str,
+    place: usize,
+) -> Connection<S>
     requires { pool ≡ [] }
 {
     assert!(rt; conn.is_autocommit());
     match reopen(alloc, pool, conn, MARK) {
         Ok((desk, vault)) => {
             let mut desk = desk;
-            let text = text_or_abort(rt, tried(alloc, &mut desk));
-            (text, vault.release())
+            same_text(rt, &tried(rt, alloc, &mut desk), wanted, place);
+            let_go(desk);
+            vault.release()
         }
-        Err((conn, fault)) => (text_or_abort(rt, fault_of(alloc, fault)), conn),
+        Err((conn, fault)) => {
+            check_fault(rt, alloc, fault, wanted, place);
+            conn
+        }
     }
 }
 
@@ -395,6 +347,13 @@ pub(crate) fn pool_of<L: Ledger>(rt: &impl Abort, alloc: Global, blank: Blank) -
     match Pool::<L>::new(alloc, blank) {
         Ok(pool) => pool,
         Err(_) => panic!(rt; "no memory"),
+    }
+}
+
+fn listed_by(queries: Queries) -> &'static [&'static str] {
+    match queries {
+        Queries::Rows => TABLES,
+        Queries::These(queries) => queries,
     }
 }
 
@@ -412,14 +371,12 @@ fn check_in<L: Ledger, S: Alter + Drop>(
     requires enough { blank.parts ≡ PARTS }
 {
     let pool = pool_of::<L>(rt, alloc, blank);
+    let queries = listed_by(file.2);
     let mut conn = conn;
-    let before = look(rt, alloc, &mut conn, file.2, file.4);
-    let (text, conn) = adopted(rt, alloc, conn);
-    same_text(rt, &text, file.3, place);
-    let (text, conn) = reopened(rt, alloc, pool, conn);
-    same_text(rt, &text, file.3, place);
-    let mut conn = conn;
-    let after = look(rt, alloc, &mut conn, file.2, file.4);
+    let before = look(rt, alloc, &mut conn, queries, file.4);
+    let conn = check_adopt(rt, alloc, conn, file.3, place);
+    let mut conn = check_reopen(rt, alloc, pool, conn, file.3, place);
+    let after = look(rt, alloc, &mut conn, queries, file.4);
     same_text(rt, &after, &before, place);
 }
 
@@ -430,14 +387,8 @@ pub(crate) fn made(
     start: Start,
     texts: &[&str],
 ) -> Connection<MemStore> {
-    match written(alloc, start, texts) {
-        Ok(conn) => again(rt, alloc, conn),
-        Err(_) => panic!(rt; "a text was refused"),
-    }
-}
-
-fn written(alloc: Global, start: Start, texts: &[&str]) -> Result<Connection<MemStore>, Fail> {
-    filled(alloc, begun(alloc, start)?, start, texts)
+    let conn = begun(rt, alloc, in_memory(rt, alloc), start);
+    again(rt, alloc, filled(rt, conn, texts))
 }
 
 fn check(rt: &impl Abort, alloc: Global, file: &File, place: usize) {

@@ -1,6 +1,6 @@
 //! What a desk shows, beside what plain SQL tells of the rows.
 
-use crate::stores::{answer, number};
+use crate::stores::{answer, count};
 use delivery_book::Row as Shown;
 use desk::{Desk, EndpointPage, Limits, Ticket, Told, Totals};
 use relay_types::{MsgId, Name, State};
@@ -212,18 +212,35 @@ fn check_totals<L: Ledger>(rt: &impl Abort, desk: &Desk<L>, rows: &[Row]) {
     assert!(rt; !desk.is_halted());
 }
 
+fn holds(rt: &impl Abort, is: bool, what: &str, place: usize) {
+    assert!(rt; is, "{what} {place}");
+}
+
 fn check_endpoints<L: Ledger>(rt: &impl Abort, desk: &Desk<L>, rows: &[Row]) {
     for (place, row) in rows.iter().enumerate() {
-        assert!(rt;
+        holds(
+            rt,
             has_endpoint(desk, name_of(rt, row), row),
-            "endpoint {place}"
+            "endpoint",
+            place,
         );
     }
 }
 
 fn check_events<L: Ledger>(rt: &impl Abort, desk: &Desk<L>, rows: &[Row]) {
     for (place, row) in rows.iter().enumerate() {
-        assert!(rt; has_event(desk, &ticket_of(rt, row), row), "event {place}");
+        holds(
+            rt,
+            has_event(desk, &ticket_of(rt, row), row),
+            "event",
+            place,
+        );
+    }
+}
+
+fn check_each_limit<L: Ledger>(rt: &impl Abort, desk: &Desk<L>, rows: &[Row]) {
+    for (place, row) in rows.iter().enumerate() {
+        holds(rt, has_limits(desk, name_of(rt, row), row), "limits", place);
     }
 }
 
@@ -246,13 +263,10 @@ pub(crate) fn check_limits<L: Ledger, S: Alter>(
     conn: &mut Connection<S>,
     desk: &Desk<L>,
 ) {
-    let rows = judged(rt, alloc, conn, ENDPOINTS);
-    for (place, row) in rows.iter().enumerate() {
-        assert!(rt; has_limits(desk, name_of(rt, row), row), "limits {place}");
-    }
+    check_each_limit(rt, desk, &judged(rt, alloc, conn, ENDPOINTS));
 }
 
 /// The greatest moment in the rows, by plain SQL.
 pub(crate) fn latest<S: Alter>(rt: &impl Abort, conn: &mut Connection<S>) -> u64 {
-    u64::try_from(number(rt, conn, LATEST)).expect(rt, "a moment")
+    count(rt, conn, LATEST)
 }

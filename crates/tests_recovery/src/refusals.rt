@@ -1,7 +1,7 @@
 //! A file for each refusal. The rows are as they were.
 
 use crate::conditions::ENDPOINT;
-use crate::openings::{ATTEMPTED, File, ROWS, Start, check_all};
+use crate::openings::{ATTEMPTED, File, Queries, ROWS, Start, check_all};
 
 const NOT_OURS: &str = "NotOurs";
 
@@ -230,7 +230,7 @@ fn a_negative_put_is_refused(rt: HostRuntime) {
     check_all(&rt, rt.alloc(), &A_NEGATIVE_PUT);
 }
 
-const SCHEMA: &[&str] = &["SELECT * FROM sqlite_schema"];
+const SCHEMA: Queries = Queries::These(&["SELECT * FROM sqlite_schema"]);
 
 static WITHOUT_THE_TABLES: [File; 2] = [
     File(
@@ -346,13 +346,13 @@ fn tables_without_a_key_are_damaged(rt: HostRuntime) {
     check_all(&rt, rt.alloc(), &WITHOUT_A_KEY);
 }
 
-const COUNTS: &[&str] = &[
+const COUNTS: Queries = Queries::These(&[
     "SELECT count(*) FROM meta",
     "SELECT count(*) FROM endpoints",
     "SELECT count(*) FROM secrets",
     "SELECT count(*) FROM deliveries",
     "SELECT count(*) FROM attempts",
-];
+]);
 
 static BODIES: [File; 2] = [
     File(
@@ -382,17 +382,29 @@ fn a_body_has_65536_bytes_at_most(rt: HostRuntime) {
     check_all(&rt, rt.alloc(), &BODIES);
 }
 
+/// 256 endpoints with a secret each.
+const ENDPOINTS: &str = "INSERT INTO endpoints \
+     WITH RECURSIVE n(k) AS (SELECT 0 UNION ALL SELECT k + 1 FROM n WHERE k < 255) \
+     SELECT k, 'e' || k, 'http://h/', 100, 1, k, k FROM n; \
+     INSERT INTO secrets SELECT put, 0, x'303132333435363738396162636465663031323334353637' FROM endpoints; \
+     UPDATE meta SET records = 256";
+
 static MANY: [File; 2] = [
     File(
-        Start::Endpoints(256),
-        &[],
+        Start::Ours,
+        &[ENDPOINTS],
         COUNTS,
         "records 256",
         &[("SELECT count(*) FROM endpoints WHERE put = 255", 1)],
     ),
     File(
-        Start::Endpoints(257),
-        &[],
+        Start::Ours,
+        &[
+            ENDPOINTS,
+            "INSERT INTO endpoints VALUES(256, 'e256', 'http://h/', 100, 1, 256, 256); \
+             INSERT INTO secrets VALUES(256, 0, x'303132333435363738396162636465663031323334353637'); \
+             UPDATE meta SET records = 257",
+        ],
         COUNTS,
         DAMAGED,
         &[("SELECT count(*) FROM endpoints WHERE put = 256", 1)],

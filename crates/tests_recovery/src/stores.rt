@@ -38,6 +38,11 @@ pub(crate) fn number<S: Alter>(rt: &impl Abort, conn: &mut Connection<S>, sql: &
     row.get(0).expect(rt, "a number")
 }
 
+/// How many this counts.
+pub(crate) fn count<S: Alter>(rt: &impl Abort, conn: &mut Connection<S>, sql: &str) -> u64 {
+    u64::try_from(number(rt, conn, sql)).expect(rt, "a count")
+}
+
 fn same_number(rt: &impl Abort, found: i64, wanted: i64, sql: &str) {
     assert!(rt; found == wanted, "{found} at {sql}");
 }
@@ -49,7 +54,7 @@ pub(crate) fn count_all<S: Alter>(rt: &impl Abort, conn: &mut Connection<S>, cou
     }
 }
 
-static TABLES: &[&str] = &[
+pub(crate) static TABLES: &[&str] = &[
     "SELECT rowid, * FROM meta",
     "SELECT rowid, * FROM endpoints",
     "SELECT rowid, * FROM secrets",
@@ -58,16 +63,9 @@ static TABLES: &[&str] = &[
     "SELECT rowid, * FROM topics",
 ];
 
-fn add_rows<S: Alter>(
-    rt: &impl Abort,
-    alloc: Global,
-    conn: &mut Connection<S>,
-    sql: &str,
-    text: &mut String,
-) {
+fn add_rows<S: Alter>(rt: &impl Abort, conn: &mut Connection<S>, sql: &str, text: &mut String) {
     let rows = answer(rt, conn, sql);
-    let rows = format!(in alloc; "{rows:?}").expect(rt, "memory");
-    text.push_str(&rows).expect(rt, "memory");
+    write!(text, "{rows:?}").expect(rt, "memory");
 }
 
 /// The rows that the queries give.
@@ -79,7 +77,7 @@ pub(crate) fn rows_of<S: Alter>(
 ) -> String {
     let mut text = String::new(alloc);
     for sql in queries {
-        add_rows(rt, alloc, conn, sql, &mut text);
+        add_rows(rt, conn, sql, &mut text);
     }
     text
 }

@@ -1,7 +1,7 @@
 //! Files that break one condition on topics, each beside one that keeps it.
 
 use crate::conditions::{DAMAGED, ENDPOINT, EVENT, TWO};
-use crate::openings::{ATTEMPTED, File, ROWS, Start, check_all};
+use crate::openings::{ATTEMPTED, File, Queries, ROWS, Start, check_all};
 
 /// Condition 8.
 static A_TOPIC_IS_A_NAME: [File; 7] = [
@@ -515,24 +515,35 @@ fn numbers_between_topics_need_no_row(rt: HostRuntime) {
     check_all(&rt, rt.alloc(), &NUMBERS_BETWEEN_TOPICS_NEED_NO_ROW);
 }
 
-const COUNTS: &[&str] = &[
+const COUNTS: Queries = Queries::These(&[
     "SELECT * FROM meta",
     "SELECT count(*) FROM endpoints",
     "SELECT count(*) FROM topics",
-];
+]);
+
+/// 4096 topics of the endpoint.
+const TOPICS: &str = "INSERT INTO topics \
+     WITH RECURSIVE n(k) AS (SELECT 1 UNION ALL SELECT k + 1 FROM n WHERE k < 4096) \
+     SELECT 't' || (k - 1), 0, 1, k FROM n; \
+     UPDATE meta SET records = 4097";
 
 /// Condition 8.
 static MANY: [File; 2] = [
     File(
-        Start::Topics(4096),
-        &[],
+        Start::Ours,
+        &[ENDPOINT, TOPICS],
         COUNTS,
         "records 4097 enabled",
         &[("SELECT count(*) FROM topics WHERE set_by = 4096", 1)],
     ),
     File(
-        Start::Topics(4097),
-        &[],
+        Start::Ours,
+        &[
+            ENDPOINT,
+            TOPICS,
+            "INSERT INTO topics VALUES('t4096', 0, 1, 4097); \
+             UPDATE meta SET records = 4098",
+        ],
         COUNTS,
         DAMAGED,
         &[("SELECT count(*) FROM topics WHERE set_by = 4097", 1)],
