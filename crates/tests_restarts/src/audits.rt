@@ -1,19 +1,18 @@
 //! What an audit finds of a desk and a store.
-ghost use Rattle.std.specs.Prelude.{◌≡◌, IsTrue};
+ghost use Rattle.std.specs.Prelude.{◌≡◌};
 ghost use Rattle.desk.specs.Desks.{HasNothingOut};
 
 use crate::calls::{Call, Path, check_replies, events_of};
 use crate::files::{fused, opened};
 use crate::paths::PUT;
-use crate::runs::{MARK, begun, in_memory};
+use crate::runs::{MARK, begun, in_memory, later_batch};
 use desk::Desk;
-use drill::{Event, World, run};
+use drill::{Event, Reply, World, run};
 use permits::PARTS;
 use recovery::{AuditFault, audit, create};
-use relay_types::{Name, Record, Step};
-use spool::{Batch, CommitEnd, Vault};
-use sqlite::{Alter, Connection, FileStore, Files, MemStore};
-use sqlite_disk::{Disk, Fuse, Memory};
+use spool::{CommitEnd, Vault};
+use sqlite::{Alter, Connection, FileStore, MemStore};
+use sqlite_disk::{Fuse, Memory};
 use std::alloc::Global;
 use std::marker::Brand;
 use std::process::Abort;
@@ -163,12 +162,7 @@ static CASES: [Case; 15] = [
 
 /// Commits a record that disables endpoint `a`.
 fn commit_one_more<S: Alter>(rt: &impl Abort, alloc: Global, vault: &mut Vault<S>) {
-    let name = Name::read(b"a").expect(rt, "a name");
-    let mut steps = Vec::new(alloc);
-    steps
-        .push(Step::of(Record::Enabled { name, flag: false }))
-        .expect(rt, "memory");
-    match vault.commit(Batch::of(MARK, 3, steps)) {
+    match vault.commit(later_batch(rt, alloc)) {
         Ok(receipt) => drop(receipt.into_steps()),
         Err(CommitEnd::Unchanged(_batch, _)) => panic!(rt; "nothing was committed"),
         Err(CommitEnd::Doubtful(_doubt, _)) => panic!(rt; "the commit is in doubt"),
@@ -233,86 +227,22 @@ fn found<L: Ledger, S: Alter>(
     }
 }
 
-/// What the audit finds after the calls, which are told what is wanted.
+/// What an audit finds after a run, whether the vault is closed then, and what the run was told.
+#[derive(Drop)]
+struct Outcome {
+    fault: Option<AuditFault>,
+    is_closed: bool,
+    replies: Vec<Reply>,
+}
+
 fn found_after<L: Ledger, S: Alter + Drop>(
     rt: &impl Abort,
     alloc: Global,
     desk: Desk<L>,
     vault: Vault<S>,
-    case: Case,
-) -> Option<AuditFault>
-    requires out { HasNothingOut desk }
-    requires mark { desk.waiting.mark ≡ vault.mark }
-{
-    let Case(paths, store, _) = case;
-    let events = events_of(rt, alloc, paths);
-    match run(alloc, desk, vault, &events) {
-        Ok(world) => {
-            let World {
-                desk,
-                mut vault,
-                permits,
-                receipt,
-                held,
-                replies,
-            } = world;
-            check_replies(rt, alloc, &replies, paths);
-            let found = found(rt, alloc, &desk, &mut vault, store);
-            drop(desk.close(permits, receipt, held));
-            found
-        }
-        Err((_, _, _)) => panic!(rt; "no memory"),
-    }
-}
-
-fn found_in<L: Ledger, S: Alter + Drop>(
-    rt: &impl Abort,
-    alloc: Global,
-    blank: Blank,
-    conn: Connection<S>,
-    case: Case,
-) -> Option<AuditFault>
-    requires name { blank.name ≡ L.name }
-    requires parts { blank.parts ≡ L.parts }
-    requires enough { blank.parts ≡ PARTS }
-{
-    assert!(rt; conn.is_autocommit());
-    match create::<L, S>(alloc, blank, conn, MARK) {
-        Ok((desk, vault)) => found_after(rt, alloc, desk, vault, case),
-        Err((_, _)) => panic!(rt; "create was refused"),
-    }
-}
-
-#[test]
-fn finds_what_differs(rt: HostRuntime) {
-    for (place, case) in CASES.iter().enumerate() {
-        let conn = in_memory(&rt, rt.alloc());
-        let found = found_in::<Brand, MemStore>(&rt, rt.alloc(), Blank::new(PARTS), conn, *case);
-        assert!(rt; found == case.2, "case {place}");
-    }
-}
-
-/// Whether the vault is closed. Then the audit is refused as the store's.
-fn is_closed<L: Ledger, S: Alter>(
-    rt: &impl Abort,
-    alloc: Global,
-    desk: &Desk<L>,
-    vault: &mut Vault<S>,
-) -> bool {
-    let closed = vault.is_closed();
-    if closed {
-        assert!(rt; audit(alloc, vault, desk) == Err(AuditFault::Store));
-    }
-    closed
-}
-
-fn closes<L: Ledger, S: Alter + Drop>(
-    rt: &impl Abort,
-    alloc: Global,
-    desk: Desk<L>,
-    vault: Vault<S>,
     events: &[Event],
-) -> bool
+    store: Store,
+) -> Outcome
     requires out { HasNothingOut desk }
     requires mark { desk.waiting.mark ≡ vault.mark }
 {
@@ -324,42 +254,97 @@ fn closes<L: Ledger, S: Alter + Drop>(
                 permits,
                 receipt,
                 held,
-                replies: _,
+                replies,
             } = world;
-            let closed = is_closed(rt, alloc, &desk, &mut vault);
+            let is_closed = vault.is_closed();
+            let fault = found(rt, alloc, &desk, &mut vault, store);
             drop(desk.close(permits, receipt, held));
-            closed
+            Outcome {
+                fault,
+                is_closed,
+                replies,
+            }
         }
         Err((_, _, _)) => panic!(rt; "no memory"),
     }
 }
 
-fn closes_in<L: Ledger, D: Disk + Drop>(
+/// The same on a new desk over a store without tables, unless the store refuses them.
+fn found_on<L: Ledger, S: Alter + Drop>(
     rt: &impl Abort,
     alloc: Global,
     blank: Blank,
-    files: Files<D>,
+    conn: Connection<S>,
+    events: &[Event],
+    store: Store,
+) -> Option<Outcome>
+    requires name { blank.name ≡ L.name }
+    requires parts { blank.parts ≡ L.parts }
+    requires enough { blank.parts ≡ PARTS }
+{
+    assert!(rt; conn.is_autocommit());
+    match create::<L, S>(alloc, blank, conn, MARK) {
+        Ok((desk, vault)) => Some(found_after(rt, alloc, desk, vault, events, store)),
+        Err((_, _)) => None,
+    }
+}
+
+fn found_in_memory(
+    rt: &impl Abort,
+    alloc: Global,
+    events: &[Event],
+    store: Store,
+) -> Option<Outcome> {
+    let conn = in_memory(rt, alloc);
+    found_on::<Brand, MemStore>(rt, alloc, Blank::new(PARTS), conn, events, store)
+}
+
+fn check_case(rt: &impl Abort, alloc: Global, place: usize, case: Case) {
+    let Case(paths, store, wanted) = case;
+    match found_in_memory(rt, alloc, &events_of(rt, alloc, paths), store) {
+        Some(found) => {
+            check_replies(rt, alloc, &found.replies, paths);
+            assert!(rt; found.fault == wanted, "case {place}");
+        }
+        None => panic!(rt; "create was refused"),
+    }
+}
+
+#[test]
+fn finds_what_differs(rt: HostRuntime) {
+    for (place, case) in CASES.iter().enumerate() {
+        check_case(&rt, rt.alloc(), place, *case);
+    }
+}
+
+/// Whether the run closes its vault. Then the audit is refused as the store's.
+fn closes<L: Ledger, S: Alter + Drop>(
+    rt: &impl Abort,
+    alloc: Global,
+    blank: Blank,
+    conn: Connection<S>,
     events: &[Event],
 ) -> bool
     requires name { blank.name ≡ L.name }
     requires parts { blank.parts ≡ L.parts }
     requires enough { blank.parts ≡ PARTS }
-    requires log { IsTrue (D.Disk.is_usable files.log) }
-    requires db { IsTrue (D.Disk.is_usable files.db) }
 {
-    let Some(conn) = opened(alloc, files) else {
-        return false;
-    };
-    assert!(rt; conn.is_autocommit());
-    match create::<L, FileStore<D>>(alloc, blank, conn, MARK) {
-        Ok((desk, vault)) => closes(rt, alloc, desk, vault, events),
-        Err((_, _)) => false,
+    match found_on::<L, S>(rt, alloc, blank, conn, events, Store::Own) {
+        Some(found) => {
+            assert!(rt; !found.is_closed || found.fault == Some(AuditFault::Store));
+            found.is_closed
+        }
+        None => false,
     }
 }
 
 fn closes_after(rt: &impl Abort, alloc: Global, events: &[Event], calls: u64) -> bool {
-    let files = fused(alloc, calls, u64::MAX);
-    closes_in::<Brand, Fuse<Memory>>(rt, alloc, Blank::new(PARTS), files, events)
+    match opened(alloc, fused(alloc, calls, u64::MAX)) {
+        Some(conn) => {
+            closes::<Brand, FileStore<Fuse<Memory>>>(rt, alloc, Blank::new(PARTS), conn, events)
+        }
+        None => false,
+    }
 }
 
 static SETTLED_ALONE: [Path; 1] = [&SETTLED];

@@ -1,17 +1,16 @@
 //! A store that stops taking writes: which call of its log fails first is tried in turn, up to the last one of a
 //! commit.
-ghost use Rattle.std.specs.Prelude.{◌≡◌, IsTrue};
+ghost use Rattle.std.specs.Prelude.{◌≡◌};
 
 use crate::calls::{Call, Path, check_replies, events_of, is_line_at};
 use crate::files::{fused, opened};
 use crate::paths::{MEANWHILE, SEALED};
-use crate::runs::{MARK, begun};
+use crate::runs::{begun, later_batch};
 use drill::{Event, Reply};
 use permits::PARTS;
-use relay_types::{Name, Record, Step};
-use spool::{Batch, CommitEnd, Unchanged, Vault};
-use sqlite::{Alter, FileStore, Files};
-use sqlite_disk::{Disk, Fuse, Memory};
+use spool::{CommitEnd, Unchanged, Vault};
+use sqlite::{Alter, Connection, FileStore};
+use sqlite_disk::{Fuse, Memory};
 use std::alloc::Global;
 use std::marker::Brand;
 use std::process::Abort;
@@ -43,16 +42,6 @@ const DOUBT: [Call; 16] = [
 ];
 
 static PATHS: [Path; 4] = [&SEALED, &DOUBTFUL, &MEANWHILE, &DOUBT];
-
-/// A batch that goes on with the records of the run.
-fn later_batch(rt: &impl Abort, alloc: Global) -> Batch {
-    let name = Name::read(b"a").expect(rt, "a name");
-    let mut steps = Vec::new(alloc);
-    steps
-        .push(Step::of(Record::Enabled { name, flag: false }))
-        .expect(rt, "memory");
-    Batch::of(MARK, 3, steps)
-}
 
 /// Whether the vault hands back a batch that goes on with its records, as Closed.
 fn is_closed_to<S: Alter>(rt: &impl Abort, alloc: Global, vault: &mut Vault<S>) -> bool {
@@ -108,23 +97,18 @@ fn check_end<S: Alter>(
     end
 }
 
-fn end_of<L: Ledger, D: Disk + Drop>(
+fn end_of<L: Ledger, S: Alter + Drop>(
     rt: &impl Abort,
     alloc: Global,
     blank: Blank,
-    files: Files<D>,
+    conn: Connection<S>,
     events: &[Event],
 ) -> End
     requires name { blank.name ≡ L.name }
     requires parts { blank.parts ≡ L.parts }
     requires enough { blank.parts ≡ PARTS }
-    requires log { IsTrue (D.Disk.is_usable files.log) }
-    requires db { IsTrue (D.Disk.is_usable files.db) }
 {
-    let Some(conn) = opened(alloc, files) else {
-        return End::Early;
-    };
-    match begun::<L, FileStore<D>>(rt, alloc, blank, conn, events) {
+    match begun::<L, S>(rt, alloc, blank, conn, events) {
         Some((_pool, vault, replies)) => {
             let mut vault = vault;
             check_end(rt, alloc, &mut vault, &replies)
@@ -134,8 +118,12 @@ fn end_of<L: Ledger, D: Disk + Drop>(
 }
 
 fn end_after(rt: &impl Abort, alloc: Global, events: &[Event], calls: u64) -> End {
-    let files = fused(alloc, calls, u64::MAX);
-    end_of::<Brand, Fuse<Memory>>(rt, alloc, Blank::new(PARTS), files, events)
+    match opened(alloc, fused(alloc, calls, u64::MAX)) {
+        Some(conn) => {
+            end_of::<Brand, FileStore<Fuse<Memory>>>(rt, alloc, Blank::new(PARTS), conn, events)
+        }
+        None => End::Early,
+    }
 }
 
 #[test]

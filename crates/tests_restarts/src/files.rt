@@ -1,7 +1,7 @@
 //! The two files of a store, in memory: they stop taking calls, and the machine crashes.
 ghost use Rattle.std.specs.Prelude.{IsTrue};
 
-use sqlite::{Connection, FileStore, Files, Options};
+use sqlite::{Alter, Connection, FileStore, Files, Options};
 use sqlite_disk::{Crash, Disk, Fuse, Memory};
 use std::alloc::Global;
 use std::process::Abort;
@@ -17,12 +17,16 @@ pub(crate) fn fused(alloc: Global, log: u64, db: u64) -> Files<Fuse<Memory>>
     }
 }
 
-/// What is in the files after a crash.
-pub(crate) fn crashed<D: Crash>(files: Files<D>) -> Files<D>
+fn store_of<S: Alter + Drop>(conn: Connection<S>) -> S {
+    conn.into_store()
+}
+
+/// What is in the files of the store after a crash.
+pub(crate) fn crashed<D: Crash + Drop>(conn: Connection<FileStore<D>>) -> Files<D>
     ensures log { IsTrue (D.Disk.is_usable result.log) }
     ensures db { IsTrue (D.Disk.is_usable result.db) }
 {
-    let Files { mut log, mut db } = files;
+    let Files { mut log, mut db } = store_of(conn).close();
     log.crash();
     db.crash();
     Files { log, db }
@@ -45,7 +49,7 @@ pub(crate) fn come_back<D: Crash + Drop>(
     alloc: Global,
     conn: Connection<FileStore<D>>,
 ) -> Connection<FileStore<D>> {
-    match opened(alloc, crashed(conn.into_store().close())) {
+    match opened(alloc, crashed(conn)) {
         Some(conn) => conn,
         None => panic!(rt; "the store was not opened again"),
     }

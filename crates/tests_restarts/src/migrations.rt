@@ -5,8 +5,7 @@ ghost use Rattle.std.specs.Prelude.{◌≡◌, IsTrue};
 
 use crate::calls::{Call, Path, check_replies, events_of};
 use crate::files::{come_back, crashed, opened};
-use crate::runs::{MARK, closed};
-use drill::Reply;
+use crate::runs::{MARK, gone_on};
 use permits::{PARTS, Pool};
 use recovery::reopen;
 use spool::OpenFault;
@@ -54,24 +53,26 @@ static PAGES: [Path; 1] = [&[
 ]];
 
 /// The store, with the tables of version 1.
-fn filled<S: Alter + Drop>(rt: &impl Abort, conn: Connection<S>) -> S {
+fn filled<S: Alter>(rt: &impl Abort, conn: Connection<S>) -> Connection<S> {
     let mut conn = conn;
     conn.execute_batch(FIRST).expect(rt, "tables of version 1");
-    conn.into_store()
+    conn
 }
 
-/// The files of a store of version 1, made in these.
-fn first_files<D: Disk + Drop>(rt: &impl Abort, alloc: Global, files: Files<D>) -> Files<D>
+/// The files of a store of version 1 after a crash, made in these.
+fn first_files<D: Crash + Drop>(rt: &impl Abort, alloc: Global, files: Files<D>) -> Files<D>
     requires log { IsTrue (D.Disk.is_usable files.log) }
     requires db { IsTrue (D.Disk.is_usable files.db) }
+    ensures log { IsTrue (D.Disk.is_usable result.log) }
+    ensures db { IsTrue (D.Disk.is_usable result.db) }
 {
     match opened(alloc, files) {
-        Some(conn) => filled(rt, conn).close(),
+        Some(conn) => crashed(filled(rt, conn)),
         None => panic!(rt; "no store"),
     }
 }
 
-/// The files of a store of version 1 after a crash. The log takes so many calls.
+/// The same, of which the log takes so many calls.
 fn fused_files(rt: &impl Abort, alloc: Global, calls: u64) -> Files<Fuse<Memory>>
     ensures log { IsTrue (⟦<Fuse<Memory> as Disk>⟧.is_usable result.log) }
     ensures db { IsTrue (⟦<Fuse<Memory> as Disk>⟧.is_usable result.db) }
@@ -80,7 +81,7 @@ fn fused_files(rt: &impl Abort, alloc: Global, calls: u64) -> Files<Fuse<Memory>
         log: Memory::new(alloc),
         db: Memory::new(alloc),
     };
-    let Files { log, db } = crashed(first_files(rt, alloc, files));
+    let Files { log, db } = first_files(rt, alloc, files);
     Files {
         log: Fuse::new(log, calls),
         db: Fuse::new(db, u64::MAX),
@@ -95,7 +96,12 @@ fn version<S: Alter>(rt: &impl Abort, conn: &mut Connection<S>) -> i64 {
     row.get(0).expect(rt, "a number")
 }
 
-/// The connection after an opening, and whether it succeeded. Only the store refuses it.
+/// Only the store refuses an opening.
+fn check_fault(rt: &impl Abort, fault: OpenFault) {
+    assert!(rt; matches!(fault, OpenFault::Store(_)), "{fault}");
+}
+
+/// The connection after an opening, and whether it succeeded.
 fn tried<L: Ledger, S: Alter + Drop>(
     rt: &impl Abort,
     alloc: Global,
@@ -111,33 +117,28 @@ fn tried<L: Ledger, S: Alter + Drop>(
     match reopen(alloc, pool, conn, MARK) {
         Ok((_desk, vault)) => (vault.release(), true),
         Err((conn, fault)) => {
-            assert!(rt; matches!(fault, OpenFault::Store(_)), "{fault}");
+            check_fault(rt, fault);
             (conn, false)
         }
     }
 }
 
-/// What the store's opening shows, and its connection.
-fn shown<L: Ledger, S: Alter + Drop>(
+/// Checks what the store's opening shows. Its connection.
+fn checked<L: Ledger, S: Alter + Drop>(
     rt: &impl Abort,
     alloc: Global,
     blank: Blank,
     conn: Connection<S>,
-) -> (Connection<S>, Vec<Reply>)
+) -> Connection<S>
     requires name { blank.name ≡ L.name }
     requires parts { blank.parts ≡ L.parts }
     requires enough { blank.parts ≡ PARTS }
 {
-    assert!(rt; conn.is_autocommit());
     let pool = Pool::<L>::new(alloc, blank).expect(rt, "memory");
     let events = events_of(rt, alloc, &PAGES);
-    match reopen(alloc, pool, conn, MARK + 1) {
-        Ok((desk, vault)) => {
-            let (_pool, vault, replies) = closed(rt, alloc, desk, vault, &events);
-            (vault.release(), replies)
-        }
-        Err((_, _)) => panic!(rt; "the opening was refused"),
-    }
+    let (_pool, vault, replies) = gone_on(rt, alloc, pool, conn, &events);
+    check_replies(rt, alloc, &replies, &PAGES);
+    vault.release()
 }
 
 /// Checks what is in the store when the machine comes back. The version of its tables.
@@ -145,9 +146,7 @@ fn check_left<S: Alter + Drop>(rt: &impl Abort, alloc: Global, conn: Connection<
     let mut conn = conn;
     let left = version(rt, &mut conn);
     assert!(rt; left == 1 || left == 2, "version {left}");
-    let (conn, replies) = shown::<Brand, S>(rt, alloc, Blank::new(PARTS), conn);
-    check_replies(rt, alloc, &replies, &PAGES);
-    let mut conn = conn;
+    let mut conn = checked::<Brand, S>(rt, alloc, Blank::new(PARTS), conn);
     assert!(rt; version(rt, &mut conn) == 2);
     left
 }

@@ -7,7 +7,8 @@ use desk::Desk;
 use drill::{Event, Reply, World, run};
 use permits::{PARTS, Pool};
 use recovery::{create, reopen};
-use spool::Vault;
+use relay_types::{Name, Record, Step};
+use spool::{Batch, Vault};
 use sqlite::{Alter, Connection, MemStore};
 use std::alloc::Global;
 use std::marker::Brand;
@@ -15,6 +16,16 @@ use std::process::Abort;
 use std::sync::ledger::{Blank, Ledger};
 
 pub(crate) const MARK: u64 = 7;
+
+/// A batch that goes on after three records of a run: endpoint `a` is disabled.
+pub(crate) fn later_batch(rt: &impl Abort, alloc: Global) -> Batch {
+    let name = Name::read(b"a").expect(rt, "a name");
+    let mut steps = Vec::new(alloc);
+    steps
+        .push(Step::of(Record::Enabled { name, flag: false }))
+        .expect(rt, "memory");
+    Batch::of(MARK, 3, steps)
+}
 
 pub(crate) fn in_memory(rt: &impl Abort, alloc: Global) -> Connection<MemStore> {
     match Connection::open_in_memory(alloc) {
@@ -35,7 +46,7 @@ fn again(rt: &impl Abort, alloc: Global, conn: Connection<MemStore>) -> Connecti
 pub(crate) type Left<L, S> = (Pool<L>, Vault<S>, Vec<Reply>);
 
 /// Makes the calls, and closes the desk: its pool is empty.
-pub(crate) fn closed<L: Ledger, S: Alter>(
+fn closed<L: Ledger, S: Alter>(
     rt: &impl Abort,
     alloc: Global,
     desk: Desk<L>,
@@ -83,18 +94,18 @@ pub(crate) fn begun<L: Ledger, S: Alter + Drop>(
 }
 
 /// Makes the calls on what a run left, opened again.
-fn gone_on<L: Ledger, S: Alter + Drop>(
+pub(crate) fn gone_on<L: Ledger, S: Alter + Drop>(
     rt: &impl Abort,
     alloc: Global,
     pool: Pool<L>,
     conn: Connection<S>,
     events: &[Event],
-) -> Vec<Reply>
+) -> Left<L, S>
     requires { pool ≡ [] }
 {
     assert!(rt; conn.is_autocommit());
     match reopen(alloc, pool, conn, MARK + 1) {
-        Ok((desk, vault)) => closed(rt, alloc, desk, vault, events).2,
+        Ok((desk, vault)) => closed(rt, alloc, desk, vault, events),
         Err((_, _)) => panic!(rt; "the opening was refused"),
     }
 }
@@ -115,7 +126,7 @@ fn told<L: Ledger>(
     match begun::<L, MemStore>(rt, alloc, blank, conn, first) {
         Some((pool, vault, before)) => {
             let conn = again(rt, alloc, vault.release());
-            (before, gone_on(rt, alloc, pool, conn, then))
+            (before, gone_on(rt, alloc, pool, conn, then).2)
         }
         None => panic!(rt; "create was refused"),
     }

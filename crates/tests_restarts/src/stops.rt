@@ -4,10 +4,9 @@ ghost use Rattle.std.specs.Prelude.{◌≡◌, [], IfSome, IsTrue};
 use crate::calls::{Call, Path, events_of, is_line_at};
 use crate::files::{come_back, fused, opened};
 use crate::paths::{PUT, PUT_OTHER};
-use crate::runs::{MARK, begun, closed};
+use crate::runs::{begun, gone_on};
 use drill::{Event, Reply};
 use permits::{PARTS, Pool};
-use recovery::reopen;
 use sqlite::{Alter, Connection, FileStore, Files};
 use sqlite_disk::{Crash, Disk, Fuse, Memory};
 use std::alloc::Global;
@@ -176,6 +175,17 @@ fn is_shown(alloc: Global, replies: &[Reply], records: u64) -> bool {
     false
 }
 
+/// How many records were counted. What is shown of them is checked.
+fn counted(rt: &impl Abort, alloc: Global, replies: &[Reply]) -> u64 {
+    match replies.get(0) {
+        Some(Reply::Count(count)) => {
+            assert!(rt; is_shown(alloc, replies, *count), "{count} records");
+            *count
+        }
+        _ => panic!(rt; "no count"),
+    }
+}
+
 /// How many records the opening of a store has. What is shown of them is checked.
 fn records_of<L: Ledger, S: Alter + Drop>(
     rt: &impl Abort,
@@ -185,19 +195,8 @@ fn records_of<L: Ledger, S: Alter + Drop>(
 ) -> u64
     requires { pool ≡ [] }
 {
-    assert!(rt; conn.is_autocommit());
     let look = events_of(rt, alloc, &LOOK);
-    let replies = match reopen(alloc, pool, conn, MARK + 1) {
-        Ok((desk, vault)) => closed(rt, alloc, desk, vault, &look).2,
-        Err((_, _)) => panic!(rt; "the opening was refused"),
-    };
-    match replies.get(0) {
-        Some(Reply::Count(count)) => {
-            assert!(rt; is_shown(alloc, &replies, *count), "{count} records");
-            *count
-        }
-        _ => panic!(rt; "no count"),
-    }
+    counted(rt, alloc, &gone_on(rt, alloc, pool, conn, &look).2)
 }
 
 /// What a run leaves: a pool, its store, and how many records it was told to be settled, and to be sealed.
