@@ -1,6 +1,5 @@
 -- What the texts of the tables define.
 use Rattle.std.proofs.Common.{◌≡◌, Ok, Err, Result, refl}
-use Rattle.sqlite.specs.Compile.{table_defined_by}
 use Rattle.sqlite.specs.Listing.{understood}
 use Rattle.sqlite.specs.Command.TheVariants.{CreateTable}
 use Rattle.sqlite.proofs.Callers.{command_of, statement_of, IsPlain}

@@ -7,6 +7,7 @@ mod change;
 mod create;
 mod delivery;
 mod find;
+mod from_row;
 mod migrate;
 mod opened;
 mod page;

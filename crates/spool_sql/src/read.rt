@@ -7,8 +7,9 @@ ghost use Rattle.spool_sql.specs.Stored.{IsPage, AreSecretsOf, number_of, endpoi
 ghost use Rattle.spool_sql.specs.Stored.{topic_of};
 ghost use Rattle.spool_sql.specs.Steps.{LeavesAll, LooksUp, IsOfSame, SparesCommit};
 
+use crate::from_row::FromRow;
 use crate::query::query;
-use crate::row::{AttemptRow, DeliveryRow, EndpointRow, FromRow, RowFault, TopicRow};
+use crate::row::{AttemptRow, DeliveryRow, EndpointRow, RowFault, TopicRow};
 use crate::seq::Seq;
 use relay_types::Secret;
 use sqlite::{Alter, Error, Row, Transaction};

@@ -1,7 +1,7 @@
 //! The rows of the tables, as they are read.
 ghost use Rattle.std.specs.Prelude.{◌≡◌, ◌≢◌, ◌==◌, ◌<◌, ℕ, Bool, List, pos, not, IfOk, IfErr, IsTrue};
 ghost use Rattle.sqlite.specs.declared.types.Value.TheVariants.{Int, Text, Blob};
-ghost use Rattle.sqlite_value.specs.Order.{Row, column, bytes};
+ghost use Rattle.sqlite_value.specs.Order.{column, bytes};
 ghost use Rattle.sqlite_trees.specs.Objects.{number_in};
 ghost use Rattle.relay_types.specs.Rows as Rows;
 ghost use Rattle.relay_types.specs.Values.{is_body, is_max_limit, is_moment, is_msg_id, is_name, is_secret, is_target};
@@ -10,6 +10,7 @@ ghost use Rattle.spool_sql.specs.Readable.{ShowsSecret, ShowsTopic};
 ghost use Rattle.spool_sql.specs.Stored.{endpoint_in, endpoint_of, delivery_in, delivery_of, attempt_in, attempt_of};
 ghost use Rattle.spool_sql.specs.Stored.{flag_number, topic_in, topic_of};
 
+use crate::from_row::FromRow;
 use crate::seq::Seq;
 use relay_types::{Body, MAX_RECORDS, MaxLimit, Moment, MsgId, Name, ReadFault, Secret, Target};
 use sqlite::{Error, ErrorCode, Row};
@@ -88,25 +89,6 @@ pub struct TopicRow {
     pub endpoint: Seq,
     pub subscribed: bool,
     pub set_by: Seq,
-}
-
-/// What is read from a row of a query.
-pub(crate) trait FromRow: Drop {
-    // Its type in the definitions.
-    ghost Value: { Type 0 };
-
-    // Its value there.
-    ghost of: { Self → Value };
-
-    // The value that the row shows.
-    ghost in_row: { Row → Value };
-
-    // The row shows one that can be read back.
-    ghost Shows: { Row → Type 0 };
-
-    fn read(row: &Row, alloc: Global) -> Result<Self, RowFault>
-        ensures value { IfOk result (λ shown. of shown ≡ in_row row.now) }
-        ensures refused { IfErr result (λ fault. Shows row.now → IsMemoryFault fault) };
 }
 
 fn read_seq(row: &Row, at: usize) -> Result<Seq, RowFault>
