@@ -1,5 +1,5 @@
 -- What is in the store after a relay that served.
-use Rattle.std.specs.Prelude.{◌≡◌, List, ◌++◌, Option, Result, Ok, Err, IfSome, IsTrue}
+use Rattle.std.specs.Prelude.{◌≡◌, List, ◌++◌, Option, Result, Err, IfSome, IsTrue}
 use Rattle.sqlite.specs.Held.{state}
 use Rattle.sqlite.specs.Store.{Ghosts}
 use Rattle.relay_types.specs.declared.record.Record.{Record}
@@ -18,8 +18,7 @@ use Rattle.delivery.specs.declared.committer.CommitterEnd.TheVariants as committ
 use Rattle.intake_shed.specs.Acks.{EventValue, HasEvent}
 use Rattle.relay_serve.specs.declared.fault.ServeFault.{ServeFault}
 use Rattle.relay_serve.specs.declared.served.Served.{Served}
-use Rattle.relay_serve.specs.declared.fault.ServeFault.TheVariants.{BadAddress, File, CannotListen, NoThread, Halted}
-use Rattle.relay_serve.specs.declared.fault.ServeFault.TheVariants.{Audit, Write, OutOfMemory}
+use Rattle.relay_serve.specs.declared.fault.ServeFault.TheVariants.{Halted}
 
 -- how the committer ended, as the relay's end tells: it finished, unless it is told to be halted
 abbrev pub committer_end : Result Served ServeFault → CommitterEnd

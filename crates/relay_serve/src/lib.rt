@@ -3,6 +3,7 @@
 
 mod accept;
 mod fault;
+mod host;
 mod opening;
 mod operator_log;
 mod relay;
@@ -12,6 +13,7 @@ mod threads;
 mod work;
 
 pub use crate::fault::{ServeFault, end_serving};
+pub use crate::host::Host;
 pub use crate::operator_log::halt_text;
 pub use crate::served::Served;
 pub use crate::serving::{serve, serve_opened};

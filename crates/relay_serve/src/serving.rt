@@ -13,6 +13,7 @@ ghost use Rattle.intake_shed.specs.Acks.{HasEvent};
 ghost use Rattle.relay_serve.specs.Serving.{AddsEvent, KeepsAcknowledged, KeepsHistory, committer_end};
 
 use crate::fault::ServeFault;
+use crate::host::Host;
 use crate::opening::open_with_progress;
 use crate::operator_log::{LogLine, print_log_line};
 use crate::relay::Relay;
@@ -32,28 +33,15 @@ use std::alloc::{AllocError, AllocGlobal, Global};
 use std::io::{Eprint, Print};
 use std::marker::Brand;
 use std::net::{Net, SocketAddr, TcpListener, TcpStream};
-use std::random::RandomSource;
 use std::sync::Wait;
 use std::sync::ledger::{Blank, Ledger};
-use std::thread::Threads;
 use std::time::Clock;
 
 /// Opens the file, and serves at the address until so many requests are answered as the settings
 /// say, or the committer gives up.
 pub fn serve<R>(host: &HostRuntime, rt: &R, asked: &ServeWords<'_>) -> Result<Served, ServeFault>
 where
-    R: Wait
-        + Threads
-        + Clock
-        + Net<Listener = TcpListener, Stream = TcpStream>
-        + RandomSource
-        + AllocGlobal
-        + Print
-        + Eprint
-        + Copy
-        + Send
-        + Sync
-        + 'static,
+    R: Host + Net<Listener = TcpListener, Stream = TcpStream> + Print,
 {
     let Ok(address) = asked.address.parse::<SocketAddr>() else {
         return Err(ServeFault::BadAddress);
@@ -78,18 +66,7 @@ fn open_and_serve<L, R>(
 ) -> Result<Served, ServeFault>
 where
     L: Ledger + Send + Sync,
-    R: Wait
-        + Threads
-        + Clock
-        + Net<Listener = TcpListener, Stream = TcpStream>
-        + RandomSource
-        + AllocGlobal
-        + Print
-        + Eprint
-        + Copy
-        + Send
-        + Sync
-        + 'static,
+    R: Host + Net<Listener = TcpListener, Stream = TcpStream> + Print,
     requires name { blank.name ≡ L.name }
     requires parts { blank.parts ≡ L.parts }
     requires enough { blank.parts ≡ PARTS }
@@ -97,7 +74,25 @@ where
     let mut place = FilePlace::new(host, rt.alloc(), asked.file)?;
     let (desk, vault) = open_with_progress::<L, R>(host, rt, blank, asked.file)?;
     place.remember();
-    let totals = desk.totals();
+    serve_logged(rt, listener, bound, desk, vault, place, asked)
+}
+
+// Serves, and tells the operator of the start and of the acknowledged event that has the greatest number.
+fn serve_logged<L, S, P, R>(
+    rt: &R,
+    listener: &TcpListener,
+    bound: SocketAddr,
+    desk: Desk<L>,
+    vault: Vault<S>,
+    place: P,
+    asked: &ServeWords<'_>,
+) -> Result<Served, ServeFault>
+where
+    L: Ledger + Send + Sync,
+    S: Alter + Drop,
+    P: Place + Drop,
+    R: Host + Net<Listener = TcpListener, Stream = TcpStream> + Print,
+{
     if println!(rt; "listening on {bound}").is_err() {
         return Err(ServeFault::Write);
     }
@@ -107,7 +102,7 @@ where
         &LogLine::Started {
             file: asked.file,
             address: bound,
-            totals,
+            totals: desk.totals(),
         },
     );
     let (_vault, ended, acknowledged) = serve_opened(
@@ -142,17 +137,7 @@ where
     L: Ledger + Send + Sync,
     S: Alter + Drop,
     P: Place + Drop,
-    R: Wait
-        + Threads
-        + Clock
-        + Net<Listener = TcpListener, Stream = TcpStream>
-        + RandomSource
-        + AllocGlobal
-        + Eprint
-        + Copy
-        + Send
-        + Sync
-        + 'static,
+    R: Host + Net<Listener = TcpListener, Stream = TcpStream>,
     ensures rows { KeepsHistory S.Store vault result.0 result.1 }
     ensures acknowledged { KeepsAcknowledged S.Store desk vault result.0 result.1 result.2 }
     ensures clean { IfClean S.Store vault.conn result.0.conn (λ old _. HasCleanDisk old) }
@@ -189,17 +174,7 @@ where
     I: LogId + Send + Sync,
     S: Alter + Drop,
     P: Place + Drop,
-    R: Wait
-        + Threads
-        + Clock
-        + Net<Listener = TcpListener, Stream = TcpStream>
-        + RandomSource
-        + AllocGlobal
-        + Eprint
-        + Copy
-        + Send
-        + Sync
-        + 'static,
+    R: Host + Net<Listener = TcpListener, Stream = TcpStream>,
     requires table { new_log ≡ I.table }
     requires staged { new_staged ≡ I.staged }
     requires start { I.start ≡ vault.next }

@@ -3,6 +3,7 @@ ghost use Rattle.std.specs.Prelude.{IsTrue};
 ghost use Rattle.delivery.specs.Keepers.{AddsRecords, AppendsBatches, IsOfKeeper, KeepsLog};
 
 use crate::accept::{take_requests, wake};
+use crate::host::Host;
 use crate::relay::Relay;
 use crate::work::work;
 use command_interface::Settings;
@@ -10,13 +11,11 @@ use delivery::{CommitterEnd, Ended, Keeper, LoggedKeeper, committer_run};
 use intake_shed::LatestAck;
 use run_log::LogId;
 use std::alloc::AllocGlobal;
-use std::io::Eprint;
 use std::net::{Net, SocketAddr, TcpListener, TcpStream};
 use std::random::RandomSource;
 use std::sync::ledger::Ledger;
 use std::sync::{Arc, Mutex, Wait};
 use std::thread;
-use std::thread::Threads;
 use std::time::Clock;
 
 /// Runs the threads of the intake and the workers, and the committer on this one, until the end was
@@ -35,17 +34,7 @@ where
     L: Ledger + Send + Sync,
     I: LogId + Send + Sync,
     K: Keeper + Drop,
-    R: Wait
-        + Threads
-        + Clock
-        + Net<Listener = TcpListener, Stream = TcpStream>
-        + RandomSource
-        + AllocGlobal
-        + Eprint
-        + Copy
-        + Send
-        + Sync
-        + 'static,
+    R: Host + Net<Listener = TcpListener, Stream = TcpStream>,
     ensures rows { K.is_clean result.0.keeper → AddsRecords K.holds K.in_doubt logged.keeper result.0.keeper result.1 }
     ensures logged { K.is_clean result.0.keeper
         → KeepsLog K.holds K.in_doubt logged.keeper logged.writer result.0.keeper result.0.writer result.1 }
@@ -73,17 +62,7 @@ where
     L: Ledger + Send + Sync,
     I: LogId + Send + Sync,
     K: Keeper + Drop,
-    R: Wait
-        + Threads
-        + Clock
-        + Net<Listener = TcpListener, Stream = TcpStream>
-        + RandomSource
-        + AllocGlobal
-        + Eprint
-        + Copy
-        + Send
-        + Sync
-        + 'static,
+    R: Host + Net<Listener = TcpListener, Stream = TcpStream>,
     ensures rows { K.is_clean result.0.keeper → AddsRecords K.holds K.in_doubt logged.keeper result.0.keeper result.1 }
     ensures logged { K.is_clean result.0.keeper
         → KeepsLog K.holds K.in_doubt logged.keeper logged.writer result.0.keeper result.0.writer result.1 }

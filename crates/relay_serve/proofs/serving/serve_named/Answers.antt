@@ -1,4 +1,4 @@
-use Rattle.std.proofs.Common.{◌≡◌, Err, None, List, [], ap, subst, sym, ◌∙◌}
+use Rattle.std.proofs.Common.{Err, None, List, ap, subst, sym, ◌∙◌}
 use Rattle.sqlite.specs.Held.{state}
 use Rattle.sqlite.specs.State.{HasCleanDisk}
 use Rattle.relay_types.specs.declared.record.Record.{Record}
