@@ -19,14 +19,12 @@ mod oom_texts;
 mod opening;
 mod relay;
 mod running;
+mod stores;
 
-use crate::loading::print_loads;
 use crate::moves::print_moves;
 use crate::oom::print_oom;
 use crate::opening::print_opening;
-use crate::relay::answer_asks;
-use crate::running::print_runs;
-use sqlite::{Alter, Connection};
+use crate::stores::{Run, run_in_file, run_in_memory};
 use std::io;
 use std::process::ExitCode;
 use std::sync::Wait;
@@ -44,36 +42,6 @@ moves SEED COUNT   so many random moves of the claim queue
 /// The most moves of a run.
 const MAX_COUNT: u64 = 10_000_000;
 
-/// A run over the store in a file.
-#[derive(Clone, Copy)]
-enum Run {
-    Loads,
-    Replay,
-    Runs,
-}
-
-/// Makes the run over the store in the file. Whether it ended well.
-fn run_over(rt: &HostRuntime, run: Run, path: &str) -> io::Result<bool> {
-    match Connection::open(rt, path) {
-        Ok(conn) => run_with(rt, run, conn),
-        Err(_) => Ok(false),
-    }
-}
-
-fn run_with<S: Alter + Drop>(rt: &HostRuntime, run: Run, conn: Connection<S>) -> io::Result<bool> {
-    match run {
-        Run::Loads => print_loads(rt, conn),
-        Run::Replay => Ok(replay(rt, conn)),
-        Run::Runs => print_runs(rt, conn),
-    }
-}
-
-/// Replays the script on standard input. Whether it ended well.
-fn replay<S: Alter + Drop>(rt: &HostRuntime, conn: Connection<S>) -> bool {
-    let (_, end) = drill::replay(rt.alloc(), &mut rt.stdin(), &mut rt.stdout(), conn, 0);
-    end.is_ok()
-}
-
 /// Makes so many random moves. Whether these are numbers.
 fn move_at_random(rt: &HostRuntime, seed: &str, count: &str) -> io::Result<bool> {
     match (read_number(seed.as_bytes()), read_number(count.as_bytes())) {
@@ -89,12 +57,12 @@ fn run_words<R: Wait>(rt: &HostRuntime, wait: &R, words: &[&str]) -> io::Result<
             print!(rt; "{LIST}")?;
             Ok(true)
         }
-        [_, "asks"] => Ok(answer_asks(rt.alloc(), &mut rt.stdin(), &mut rt.stdout())),
+        [_, "asks"] => run_in_memory(rt, wait, Run::Asks),
         [_, "oom", word] => print_oom(rt, wait, word),
-        [_, "loads", path] => run_over(rt, Run::Loads, path),
+        [_, "loads", path] => run_in_file(rt, wait, Run::Loads, path),
         [_, "open", path] => print_opening(rt, path),
-        [_, "replay", path] => run_over(rt, Run::Replay, path),
-        [_, "runs", path] => run_over(rt, Run::Runs, path),
+        [_, "replay", path] => run_in_file(rt, wait, Run::Replay, path),
+        [_, "runs", path] => run_in_file(rt, wait, Run::Runs, path),
         [_, "moves", seed, count] => move_at_random(rt, seed, count),
         _ => Ok(false),
     }

@@ -4,12 +4,13 @@
 use crate::failed::Failed;
 use crate::given::values;
 use crate::oom_books::{BookCall, try_book};
-use crate::oom_desks::{DeskCall, PageCall, SharedCall, try_desk};
+use crate::oom_desks::{DeskCall, PageCall, SharedCall};
 use crate::oom_makes::{MakeCall, try_make};
 use crate::oom_replies::{ReplyCall, try_reply};
 use crate::oom_shares::{ShareCall, try_share};
-use crate::oom_stores::{StoreCall, try_path, try_store};
+use crate::oom_stores::{StoreCall, try_path};
 use crate::oom_texts::{TextCall, try_text};
+use crate::stores::{Run, run_in_memory};
 use relay_types::ReadFault;
 use spool::{LoadFault, OpenFault};
 use std::alloc::AllocError;
@@ -285,11 +286,11 @@ fn try_call<R: Wait>(rt: &HostRuntime, wait: &R, call: Call) -> io::Result<bool>
     };
     match call {
         Call::Book(call) => try_book(rt, call, given),
-        Call::Desk(call) => try_desk(rt, wait, call, given),
+        Call::Desk(call) => run_in_memory(rt, wait, Run::Desk(call)),
         Call::Make(call) => try_make(rt, call, given),
         Call::Reply(call) => try_reply(rt, call, given),
         Call::Share(call) => try_share(rt, call, given),
-        Call::Store(call) => try_store(rt, call),
+        Call::Store(call) => run_in_memory(rt, wait, Run::Store(call)),
         Call::Text(call) => try_text(rt, call, given),
     }
 }

@@ -5,7 +5,7 @@ ghost use Rattle.relay_types.specs.declared.record.Record.{Record};
 
 use crate::desks::{commit_waiting, created};
 use crate::failed::Failed;
-use crate::given::{FixedValues, body_of, target_of};
+use crate::given::{FixedValues, body_of, target_of, values};
 use crate::oom::{CallError, RepeatableCall, try_twice};
 use crate::oom_replies::reply_told;
 use delivery::{Clock, Pass, Round, Shared, request_of, worker_round};
@@ -17,7 +17,7 @@ use relay_types::Moment;
 use retry_table::{PostResult, Status};
 use run_log::{LogId, NewLog};
 use spool::Vault;
-use sqlite::{Alter, Connection, MemStore};
+use sqlite::{Alter, Connection};
 use status::{endpoint_text, event_text, totals_text};
 use std::alloc::Global;
 use std::io;
@@ -363,22 +363,15 @@ fn with_blank<L: Ledger, S: Alter + Drop, R: Wait>(
     }
 }
 
-/// Makes the call over a desk whose store is in memory. Whether it was made.
-pub(crate) fn try_desk<R: Wait>(
+/// Makes the call over a desk and a store without tables. Whether it was made.
+pub(crate) fn try_desk<S: Alter + Drop, R: Wait>(
     rt: &HostRuntime,
     wait: &R,
     call: DeskCall,
-    given: FixedValues,
+    conn: Connection<S>,
 ) -> io::Result<bool> {
-    match Connection::open_in_memory(rt.alloc()) {
-        Ok(conn) => with_blank::<Brand, MemStore, R>(
-            rt,
-            wait,
-            Blank::new(PARTS),
-            call,
-            conn,
-            given,
-        ),
-        Err(_) => Ok(false),
+    match values() {
+        Ok(given) => with_blank::<Brand, S, R>(rt, wait, Blank::new(PARTS), call, conn, given),
+        Err(Failed) => Ok(false),
     }
 }

@@ -159,17 +159,6 @@ fn ours<S: Alter + Drop>(conn: Connection<S>) -> Option<Connection<S>> {
     }
 }
 
-fn try_over<S: Alter + Drop>(
-    rt: &HostRuntime,
-    call: StoreCall,
-    conn: Connection<S>,
-) -> io::Result<bool> {
-    match prepared(call, conn) {
-        Some(conn) => try_prepared(rt, call, conn),
-        None => Ok(false),
-    }
-}
-
 fn try_prepared<S: Alter + Drop>(
     rt: &HostRuntime,
     call: StoreCall,
@@ -185,11 +174,15 @@ fn try_prepared<S: Alter + Drop>(
     }
 }
 
-/// Makes the call over a store in memory. Whether it was made.
-pub(crate) fn try_store(rt: &HostRuntime, call: StoreCall) -> io::Result<bool> {
-    match Connection::open_in_memory(rt.alloc()) {
-        Ok(conn) => try_over(rt, call, conn),
-        Err(_) => Ok(false),
+/// Makes the call over a store without tables. Whether it was made.
+pub(crate) fn try_store<S: Alter + Drop>(
+    rt: &HostRuntime,
+    call: StoreCall,
+    conn: Connection<S>,
+) -> io::Result<bool> {
+    match prepared(call, conn) {
+        Some(conn) => try_prepared(rt, call, conn),
+        None => Ok(false),
     }
 }
 

@@ -20,7 +20,7 @@ use permits::PARTS;
 use relay_types::{Body, Moment, MsgId, Name};
 use script_lines::Seqs;
 use spool::Vault;
-use sqlite::{Alter, Connection, MemStore};
+use sqlite::{Alter, Connection};
 use std::alloc::{AllocError, Global};
 use std::io::{Read, Write};
 use std::marker::Brand;
@@ -34,18 +34,14 @@ struct Relay<L: Ledger, S: Alter + Drop> {
     vault: Vault<S>,
 }
 
-/// Answers each line of the reader. Whether all were lines, and were answered.
-pub(crate) fn answer_asks<I: Read, O: Write>(alloc: Global, input: &mut I, output: &mut O) -> bool {
-    match Connection::open_in_memory(alloc) {
-        Ok(conn) => answer_over::<Brand, MemStore, I, O>(
-            alloc,
-            Blank::new(PARTS),
-            conn,
-            input,
-            output,
-        ),
-        Err(_) => false,
-    }
+/// Answers each line of the reader over a store without tables. Whether all were lines, and were answered.
+pub(crate) fn answer_asks<S: Alter + Drop, I: Read, O: Write>(
+    alloc: Global,
+    conn: Connection<S>,
+    input: &mut I,
+    output: &mut O,
+) -> bool {
+    answer_over::<Brand, S, I, O>(alloc, Blank::new(PARTS), conn, input, output)
 }
 
 fn answer_over<L: Ledger, S: Alter + Drop, I: Read, O: Write>(
