@@ -1,23 +1,17 @@
 //! Hosts by their names: look-ups that are slow or refused, and a host with two addresses.
-ghost use Rattle.std.specs.Prelude.{◌≡◌};
-ghost use Rattle.permits.specs.declared.pool.TheConstants.{PARTS};
 
 use crate::given::{Host, holds};
 use crate::outgoing::request_to;
 use crate::wires::take_post;
 use hyper_poster::HyperPoster;
-use permits::PARTS;
 use retry_table::PostResult;
-use sqlite::{Alter, Connection, MemStore};
 use std::alloc::{Alloc, AllocError, AllocGlobal, Global};
 use std::fs::{self, Files};
 use std::io::{self, ErrorKind, Write};
-use std::marker::Brand;
 use std::net::{Ipv4Addr, Net, SocketAddr, TcpListener, TcpStream};
 use std::process::Abort;
 use std::random::RandomSource;
 use std::sync::Wait;
-use std::sync::ledger::{Blank, Ledger};
 use std::test::Fail;
 use std::thread;
 use std::thread::Threads;
@@ -281,31 +275,12 @@ fn meet<R: Host>(
     Ok(two_crowds(rt, request)?)
 }
 
-fn over<L, S, R>(
-    rt: &R,
-    alloc: Global,
-    blank: Blank,
-    conn: Connection<S>,
-    listener: TcpListener,
-) -> Result<(), Fail>
-where
-    L: Ledger,
-    S: Alter + Drop,
-    R: Host,
-    requires name { blank.name ≡ L.name }
-    requires parts { blank.parts ≡ L.parts }
-    requires enough { blank.parts ≡ PARTS }
-{
-    let port = listener.local_addr()?.port();
-    let request = request_to::<L, S, R>(rt, alloc, blank, conn, "subscriber.test", port)?;
-    Ok(meet(rt, alloc, listener, &request)?)
-}
-
 #[test]
 fn a_look_up_takes_no_longer_than_a_post(rt: HostRuntime) -> Result<(), Fail> {
     let listener = TcpListener::bind(&rt, (Ipv4Addr::LOCALHOST, 0))?;
-    let conn = Connection::open_in_memory(rt.alloc())?;
-    over::<Brand, MemStore, HostRuntime>(&rt, rt.alloc(), Blank::new(PARTS), conn, listener)
+    let port = listener.local_addr()?.port();
+    let request = request_to(&rt, rt.alloc(), "subscriber.test", port)?;
+    Ok(meet(&rt, rt.alloc(), listener, &request)?)
 }
 
 /// So many posters are made, each of which is dropped at once.

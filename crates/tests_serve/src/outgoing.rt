@@ -9,8 +9,9 @@ use permits::{Foreign, PARTS, Permit};
 use recovery::create;
 use relay_types::Moment;
 use retry_table::PostResult;
-use sqlite::{Alter, Connection};
+use sqlite::{Alter, Connection, MemStore};
 use std::alloc::Global;
+use std::marker::Brand;
 use std::process::Abort;
 use std::sync::ledger::{Blank, Ledger};
 use std::test::Fail;
@@ -38,14 +39,13 @@ fn claimed<L: Ledger, R: Abort>(
     Ok(built?)
 }
 
-/// The request of an event for a subscriber at this host and port.
-pub(crate) fn request_to<L, S, R>(
+// The request of an event for a subscriber at this URL, over a store without tables.
+fn request_over<L, S, R>(
     rt: &R,
     alloc: Global,
     blank: Blank,
     conn: Connection<S>,
-    host: &str,
-    port: u16,
+    url: String,
 ) -> Result<Outgoing, Fail>
 where
     L: Ledger,
@@ -55,7 +55,6 @@ where
     requires parts { blank.parts ≡ L.parts }
     requires enough { blank.parts ≡ PARTS }
 {
-    let url = format!(in alloc; "http://{host}:{port}/hook")?;
     if !conn.is_autocommit() {
         return Err(Fail::from("the store is in a transaction"));
     }
@@ -66,4 +65,16 @@ where
         Ok(()) => claimed(rt, alloc, &mut desk),
         Err(fail) => Err(fail),
     }
+}
+
+/// The request of an event for a subscriber at this host and port.
+pub(crate) fn request_to<R: Abort>(
+    rt: &R,
+    alloc: Global,
+    host: &str,
+    port: u16,
+) -> Result<Outgoing, Fail> {
+    let url = format!(in alloc; "http://{host}:{port}/hook")?;
+    let conn = Connection::open_in_memory(alloc)?;
+    request_over::<Brand, MemStore, R>(rt, alloc, Blank::new(PARTS), conn, url)
 }

@@ -1,20 +1,13 @@
 //! Posts to subscribers, of which some misbehave.
-ghost use Rattle.std.specs.Prelude.{◌≡◌};
-ghost use Rattle.permits.specs.declared.pool.TheConstants.{PARTS};
-
 use crate::given::{Host, holds};
 use crate::outgoing::request_to;
 use crate::wires::take_post;
 use hyper_poster::HyperPoster;
-use permits::PARTS;
 use retry_table::PostResult;
-use sqlite::{Alter, Connection, MemStore};
 use std::alloc::Global;
 use std::io::{self, Write};
-use std::marker::Brand;
 use std::net::{Ipv4Addr, TcpListener, TcpStream};
 use std::process::Abort;
-use std::sync::ledger::{Blank, Ledger};
 use std::test::Fail;
 use std::thread;
 use std::time::{Clock, Duration};
@@ -256,29 +249,10 @@ fn meet<R: Host>(
     served
 }
 
-fn over<L, S, R>(
-    rt: &R,
-    alloc: Global,
-    blank: Blank,
-    conn: Connection<S>,
-    listener: TcpListener,
-) -> Result<(), Fail>
-where
-    L: Ledger,
-    S: Alter + Drop,
-    R: Host,
-    requires name { blank.name ≡ L.name }
-    requires parts { blank.parts ≡ L.parts }
-    requires enough { blank.parts ≡ PARTS }
-{
-    let port = listener.local_addr()?.port();
-    let request = request_to::<L, S, R>(rt, alloc, blank, conn, "127.0.0.1", port)?;
-    Ok(meet(rt, alloc, listener, &request)?)
-}
-
 #[test]
 fn a_subscriber_may_do_what_it_likes(rt: HostRuntime) -> Result<(), Fail> {
     let listener = TcpListener::bind(&rt, (Ipv4Addr::LOCALHOST, 0))?;
-    let conn = Connection::open_in_memory(rt.alloc())?;
-    over::<Brand, MemStore, HostRuntime>(&rt, rt.alloc(), Blank::new(PARTS), conn, listener)
+    let port = listener.local_addr()?.port();
+    let request = request_to(&rt, rt.alloc(), "127.0.0.1", port)?;
+    Ok(meet(&rt, rt.alloc(), listener, &request)?)
 }
