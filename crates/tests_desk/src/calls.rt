@@ -9,7 +9,7 @@ use permits::Foreign;
 use relay_types::{Moment, MsgId, Name};
 use retry_table::PostResult;
 use spool::Vault;
-use sqlite::MemStore;
+use sqlite::Alter;
 use std::alloc::Global;
 use std::process::Abort;
 use std::sync::ledger::Ledger;
@@ -222,9 +222,9 @@ fn settle<L: Ledger>(desk: &mut Desk<L>, kept: &mut Kept) -> Option<u64> {
 }
 
 /// Seals, commits and settles: whether so many records are settled then.
-pub(crate) fn turn<L: Ledger>(
+pub(crate) fn turn<L: Ledger, S: Alter>(
     desk: &mut Desk<L>,
-    vault: &mut Vault<MemStore>,
+    vault: &mut Vault<S>,
     kept: &mut Kept,
     wanted: u64,
 ) -> bool {

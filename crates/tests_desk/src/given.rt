@@ -5,7 +5,7 @@ use desk::Command;
 use relay_types::{Body, MaxLimit, Name, Secret, Secrets, Target};
 use retry_table::{PostResult, Status};
 use spool::Vault;
-use sqlite::{Connection, MemStore};
+use sqlite::{Alter, Connection};
 use std::alloc::Global;
 use std::sync::Arc;
 use std::test::Fail;
@@ -13,8 +13,11 @@ use std::test::Fail;
 pub(crate) const MARK: u64 = 7;
 
 /// A vault over a store without tables.
-pub(crate) fn opened(alloc: Global) -> Result<Vault<MemStore>, Fail> {
-    match Vault::create(Connection::open_in_memory(alloc)?, MARK) {
+pub(crate) fn created<S: Alter + Drop>(conn: Connection<S>) -> Result<Vault<S>, Fail> {
+    if !conn.is_autocommit() {
+        return Err(Fail::from("a transaction is open"));
+    }
+    match Vault::create(conn, MARK) {
         Ok(vault) => Ok(vault),
         Err((_, _)) => Err(Fail::from("create was refused")),
     }

@@ -1,7 +1,7 @@
 //! What is kept of a batch between two steps. Neither a batch nor a receipt can be dropped.
 
 use spool::{Batch, CommitEnd, Receipt, Vault};
-use sqlite::MemStore;
+use sqlite::Alter;
 
 /// A batch that is out, and a receipt.
 pub(crate) struct Kept {
@@ -33,7 +33,7 @@ impl Kept {
     }
 
     /// Commits the batch that is kept: whether it stands in the store.
-    pub(crate) fn commit(&mut self, vault: &mut Vault<MemStore>) -> bool {
+    pub(crate) fn commit<S: Alter>(&mut self, vault: &mut Vault<S>) -> bool {
         let Some(batch) = self.batch.take() else {
             return false;
         };

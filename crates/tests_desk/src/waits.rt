@@ -1,6 +1,6 @@
 //! Walks over steps of what waits to be committed, without a desk.
 
-use crate::given::{MARK, body, opened};
+use crate::given::{MARK, body, created};
 use crate::kept::{Kept, numbers_of};
 use group_commit::{Held, Waiting, WrongTurn};
 use relay_types::{
@@ -8,7 +8,7 @@ use relay_types::{
     Target,
 };
 use spool::Vault;
-use sqlite::MemStore;
+use sqlite::{Alter, Connection, MemStore};
 use std::alloc::Global;
 use std::process::Abort;
 use std::test::Fail;
@@ -243,10 +243,10 @@ fn see(waiting: &Waiting, step: Wait) -> bool {
 }
 
 /// Takes the step: whether all is as it is expected.
-fn step(
+fn step<S: Alter>(
     alloc: Global,
     waiting: &mut Waiting,
-    vault: &mut Vault<MemStore>,
+    vault: &mut Vault<S>,
     kept: &mut Kept,
     step: Wait,
 ) -> Result<bool, Fail> {
@@ -267,10 +267,10 @@ fn step(
     }
 }
 
-fn take_all(
+fn take_all<S: Alter>(
     rt: &impl Abort,
     alloc: Global,
-    vault: &mut Vault<MemStore>,
+    vault: &mut Vault<S>,
     kept: &mut Kept,
     steps: &[Wait],
 ) -> Result<(), Fail> {
@@ -282,11 +282,20 @@ fn take_all(
     Ok(())
 }
 
-/// Takes the steps on a new vault. At first nothing waits, and no record is settled.
-pub(crate) fn take_waits(rt: &impl Abort, alloc: Global, steps: &[Wait]) -> Result<(), Fail> {
-    let mut vault = opened(alloc)?;
+fn take_over<S: Alter + Drop>(
+    rt: &impl Abort,
+    alloc: Global,
+    conn: Connection<S>,
+    steps: &[Wait],
+) -> Result<(), Fail> {
+    let mut vault = created(conn)?;
     let mut kept = Kept::new();
     let told = take_all(rt, alloc, &mut vault, &mut kept, steps);
     kept.end();
     told
+}
+
+/// Takes the steps on a new vault. At first nothing waits, and no record is settled.
+pub(crate) fn take_waits(rt: &impl Abort, alloc: Global, steps: &[Wait]) -> Result<(), Fail> {
+    take_over::<MemStore>(rt, alloc, Connection::open_in_memory(alloc)?, steps)
 }

@@ -2,7 +2,7 @@
 ghost use Rattle.std.specs.Prelude.{◌≡◌, IfOk};
 ghost use Rattle.spool.specs.Books.{AreSettled};
 
-use crate::given::{MARK, opened};
+use crate::given::{MARK, created};
 use crate::kept::Kept;
 use crate::numbers::spent_books;
 use crate::requests::asks;
@@ -13,7 +13,7 @@ use permits::{PARTS, Pool};
 use relay_types::Moment;
 use retry_table::Spend;
 use spool::{Books, Vault};
-use sqlite::MemStore;
+use sqlite::{Alter, Connection, MemStore};
 use std::alloc::Global;
 use std::marker::Brand;
 use std::mem;
@@ -32,7 +32,7 @@ pub(crate) enum Start {
     Spent,
 }
 
-fn books(alloc: Global, vault: &mut Vault<MemStore>) -> Result<Books, Fail>
+fn books<S: Alter>(alloc: Global, vault: &mut Vault<S>) -> Result<Books, Fail>
     ensures { IfOk result AreSettled }
 {
     match vault.load(alloc) {
@@ -51,10 +51,10 @@ fn desk_of<L: Ledger>(alloc: Global, blank: Blank, books: Books, mark: u64) -> R
     Ok(Desk::of(alloc, pool, books, mark)?)
 }
 
-fn begun<L: Ledger>(
+fn begun<L: Ledger, S: Alter>(
     alloc: Global,
     blank: Blank,
-    vault: &mut Vault<MemStore>,
+    vault: &mut Vault<S>,
     start: Start,
 ) -> Result<Desk<L>, Fail>
     requires name { blank.name ≡ L.name }
@@ -177,11 +177,11 @@ fn post<L: Ledger>(
 }
 
 /// Takes the step: whether all is as it is expected.
-fn step<L: Ledger>(
+fn step<L: Ledger, S: Alter>(
     rt: &impl Abort,
     alloc: Global,
     desk: &mut Desk<L>,
-    vault: &mut Vault<MemStore>,
+    vault: &mut Vault<S>,
     out: &mut Out<L>,
     step: Step,
 ) -> Result<bool, Fail> {
@@ -214,11 +214,11 @@ fn step<L: Ledger>(
     }
 }
 
-fn take_all<L: Ledger>(
+fn take_all<L: Ledger, S: Alter>(
     rt: &impl Abort,
     alloc: Global,
     desk: &mut Desk<L>,
-    vault: &mut Vault<MemStore>,
+    vault: &mut Vault<S>,
     out: &mut Out<L>,
     steps: &[Step],
 ) -> Result<(), Fail> {
@@ -229,11 +229,11 @@ fn take_all<L: Ledger>(
     Ok(())
 }
 
-fn open<L: Ledger>(
+fn open<L: Ledger, S: Alter>(
     rt: &impl Abort,
     alloc: Global,
     blank: Blank,
-    vault: &mut Vault<MemStore>,
+    vault: &mut Vault<S>,
     start: Start,
     steps: &[Step],
 ) -> Result<(), Fail>
@@ -242,7 +242,7 @@ fn open<L: Ledger>(
     requires enough { blank.parts ≡ PARTS }
 {
     let now = Moment::of(0)?;
-    let mut desk = begun::<L>(alloc, blank, vault, start)?;
+    let mut desk = begun::<L, S>(alloc, blank, vault, start)?;
     let mut out = Out {
         jobs: Vec::new(alloc),
         kept: Kept::new(),
@@ -253,14 +253,36 @@ fn open<L: Ledger>(
 }
 
 /// Takes the steps of one opening.
-fn session(
+fn session<S: Alter>(
     rt: &impl Abort,
     alloc: Global,
-    vault: &mut Vault<MemStore>,
+    vault: &mut Vault<S>,
     start: Start,
     steps: &[Step],
 ) -> Result<(), Fail> {
-    open::<Brand>(rt, alloc, Blank::new(PARTS), vault, start, steps)
+    open::<Brand, S>(rt, alloc, Blank::new(PARTS), vault, start, steps)
+}
+
+fn take_each<S: Alter + Drop>(
+    rt: &impl Abort,
+    alloc: Global,
+    conn: Connection<S>,
+    sessions: &[(Start, &[Step])],
+) -> Result<(), Fail> {
+    let mut vault = created(conn)?;
+    for (start, steps) in sessions {
+        session(rt, alloc, &mut vault, *start, steps)?;
+    }
+    Ok(())
+}
+
+// Takes the steps on a new vault.
+fn take_sessions(
+    rt: &impl Abort,
+    alloc: Global,
+    sessions: &[(Start, &[Step])],
+) -> Result<(), Fail> {
+    take_each::<MemStore>(rt, alloc, Connection::open_in_memory(alloc)?, sessions)
 }
 
 /// Takes the steps on a new vault, at a desk that begins so.
@@ -270,8 +292,7 @@ pub(crate) fn take(
     start: Start,
     steps: &[Step],
 ) -> Result<(), Fail> {
-    let mut vault = opened(alloc)?;
-    session(rt, alloc, &mut vault, start, steps)
+    take_sessions(rt, alloc, &[(start, steps)])
 }
 
 /// Takes the steps on a new vault at an empty desk, then the others at a desk of what the vault holds.
@@ -281,7 +302,5 @@ pub(crate) fn take_and_reopen(
     steps: &[Step],
     others: &[Step],
 ) -> Result<(), Fail> {
-    let mut vault = opened(alloc)?;
-    session(rt, alloc, &mut vault, Start::Empty, steps)?;
-    session(rt, alloc, &mut vault, Start::Held, others)
+    take_sessions(rt, alloc, &[(Start::Empty, steps), (Start::Held, others)])
 }

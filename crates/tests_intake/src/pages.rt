@@ -9,7 +9,7 @@ use permits::{Foreign, PARTS};
 use relay_types::Moment;
 use retry_table::{PostResult, Status};
 use spool::{Batch, Receipt, Vault};
-use sqlite::{Connection, MemStore};
+use sqlite::{Alter, Connection, MemStore};
 use std::alloc::Global;
 use std::marker::Brand;
 use std::process::Abort;
@@ -142,7 +142,7 @@ fn post<L: Ledger>(
     }
 }
 
-fn opened(rt: &impl Abort, conn: Connection<MemStore>) -> Vault<MemStore> {
+fn created<S: Alter + Drop>(rt: &impl Abort, conn: Connection<S>) -> Vault<S> {
     assert!(rt; conn.is_autocommit());
     match Vault::create(conn, MARK) {
         Ok(vault) => vault,
@@ -150,14 +150,14 @@ fn opened(rt: &impl Abort, conn: Connection<MemStore>) -> Vault<MemStore> {
     }
 }
 
-fn written(rt: &impl Abort, vault: &mut Vault<MemStore>, batch: Batch) -> Receipt {
+fn written<S: Alter>(rt: &impl Abort, vault: &mut Vault<S>, batch: Batch) -> Receipt {
     match vault.commit(batch) {
         Ok(receipt) => receipt,
         Err(_end) => panic!(rt; "the commit was refused"),
     }
 }
 
-fn settle<L: Ledger>(rt: &impl Abort, desk: &mut Desk<L>, vault: &mut Vault<MemStore>) -> bool {
+fn settle<L: Ledger, S: Alter>(rt: &impl Abort, desk: &mut Desk<L>, vault: &mut Vault<S>) -> bool {
     let Ok(Some(batch)) = desk.seal() else {
         return false;
     };
@@ -217,11 +217,11 @@ fn shows<L: Ledger>(
     }
 }
 
-fn is_so<L: Ledger>(
+fn is_so<L: Ledger, S: Alter>(
     rt: &impl Abort,
     alloc: Global,
     desk: &mut Desk<L>,
-    vault: &mut Vault<MemStore>,
+    vault: &mut Vault<S>,
     step: Step,
 ) -> Result<bool, Fail> {
     match step {
@@ -233,11 +233,11 @@ fn is_so<L: Ledger>(
     }
 }
 
-fn take<L: Ledger>(
+fn take<L: Ledger, S: Alter>(
     rt: &impl Abort,
     alloc: Global,
     desk: &mut Desk<L>,
-    vault: &mut Vault<MemStore>,
+    vault: &mut Vault<S>,
     steps: &[Step],
 ) -> Result<(), Fail> {
     for (place, step) in steps.iter().enumerate() {
@@ -247,11 +247,11 @@ fn take<L: Ledger>(
     Ok(())
 }
 
-fn begin<L: Ledger>(
+fn begin<L: Ledger, S: Alter>(
     rt: &impl Abort,
     alloc: Global,
     blank: Blank,
-    vault: &mut Vault<MemStore>,
+    vault: &mut Vault<S>,
     steps: &[Step],
 ) -> Result<(), Fail>
     requires name { blank.name ≡ L.name }
@@ -262,8 +262,17 @@ fn begin<L: Ledger>(
     take(rt, alloc, &mut desk, vault, steps)
 }
 
+fn walk_over<S: Alter + Drop>(
+    rt: &impl Abort,
+    alloc: Global,
+    conn: Connection<S>,
+    steps: &[Step],
+) -> Result<(), Fail> {
+    let mut vault = created(rt, conn);
+    begin::<Brand, S>(rt, alloc, Blank::new(PARTS), &mut vault, steps)
+}
+
 /// Takes the steps in turn, with a new desk and a new vault.
 fn walk(rt: &impl Abort, alloc: Global, steps: &[Step]) -> Result<(), Fail> {
-    let mut vault = opened(rt, Connection::open_in_memory(alloc)?);
-    begin::<Brand>(rt, alloc, Blank::new(PARTS), &mut vault, steps)
+    walk_over::<MemStore>(rt, alloc, Connection::open_in_memory(alloc)?, steps)
 }

@@ -14,7 +14,7 @@ use recovery::audit;
 use relay_host::FileGuard;
 use run_log::{LogId, NewLog};
 use spool::Vault;
-use sqlite::{Alter, Connection, FileStore, Files, MemStore, Options};
+use sqlite::{Alter, Connection, FileStore, Files, Options};
 use sqlite_disk::{Fuse, Memory};
 use std::alloc::Global;
 use std::marker::Brand;
@@ -344,32 +344,20 @@ fn over<S: Alter + Drop, R: Threads + Wait + Clock + Abort + Copy + Sync>(
     open::<Brand, S, R>(rt, alloc, Blank::new(PARTS), conn, course, case)
 }
 
-/// The course over a store in memory.
-pub(crate) fn in_memory<R: Threads + Wait + Clock + Abort + Copy + Sync>(
-    rt: &R,
-    alloc: Global,
-    course: &Course,
-    case: usize,
-) -> Found {
-    match Connection::open_in_memory(alloc) {
-        Ok(conn) => over::<MemStore, R>(rt, alloc, conn, course, case),
-        Err(_) => NOTHING,
-    }
-}
-
 /// The course over the store of files, whose bytes are kept in memory. Its log takes so many calls.
 pub(crate) fn in_files<R: Threads + Wait + Clock + Abort + Copy + Sync>(
     rt: &R,
     alloc: Global,
     calls: u64,
     course: &Course,
+    case: usize,
 ) -> Found {
     let files = Files {
         log: Fuse::new(Memory::new(alloc), calls),
         db: Fuse::new(Memory::new(alloc), u64::MAX),
     };
     match Connection::open_files(alloc, files, Options::new(7)) {
-        Ok(conn) => over::<FileStore<Fuse<Memory>>, R>(rt, alloc, conn, course, 0),
+        Ok(conn) => over::<FileStore<Fuse<Memory>>, R>(rt, alloc, conn, course, case),
         Err((_, _)) => NOTHING,
     }
 }

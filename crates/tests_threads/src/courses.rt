@@ -1,6 +1,6 @@
 //! What threads do with a desk, course by course.
 
-use crate::cases::{Committer, Course, Ending, Found, in_files, in_memory};
+use crate::cases::{Committer, Course, Ending, Found, in_files};
 use crate::crowd::EACH;
 use crate::given::{Before, holds};
 use crate::stand_ins::Way;
@@ -31,14 +31,14 @@ pub(crate) fn is_ended(found: &Found, end: &End) -> bool {
         && found.are_back
 }
 
-/// Takes the course over a store in memory, and checks its end.
+/// Takes the course, and checks its end.
 pub(crate) fn check<R: Threads + Wait + Clock + Abort + Copy + Sync>(
     rt: &R,
     alloc: Global,
     course: &Course,
     end: &End,
 ) -> Found {
-    let found = in_memory(rt, alloc, course, 0);
+    let found = in_files(rt, alloc, u64::MAX, course, 0);
     holds(rt, is_ended(&found, end), "how it ends");
     found
 }
@@ -243,7 +243,7 @@ fn has_failed<R: Threads + Wait + Clock + Abort + Copy + Sync>(
     alloc: Global,
     calls: u64,
 ) -> bool {
-    let found = in_files(rt, alloc, calls, &STORE_FAILS);
+    let found = in_files(rt, alloc, calls, &STORE_FAILS, 0);
     let is_over = !found.has_begun || found.ending == Ending::Finished;
     let is_told = found.ending == Ending::Store
         && found.is_closed
@@ -309,7 +309,7 @@ static SERVED: End = End(Ending::Finished, RECORDS, RECORDS, false);
 
 #[test]
 fn a_crowd_is_served(rt: HostRuntime) -> Result<(), Fail> {
-    let found = in_files(&rt, rt.alloc(), u64::MAX, &CROWD);
+    let found = in_files(&rt, rt.alloc(), u64::MAX, &CROWD, 0);
     holds(&rt, is_ended(&found, &SERVED), "how it ends");
     let each_once = found.posts == SUBMITTERS * EACH;
     holds(&rt, each_once, "each event is posted once");

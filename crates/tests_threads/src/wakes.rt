@@ -1,7 +1,7 @@
 //! Who wakes whom: a thread waits, another makes a change, and the wait ends. Where a wake-up is
 //! lost, the turns run out.
 
-use crate::cases::{Committer, Course, Ending, in_memory};
+use crate::cases::{Committer, Course, Ending, in_files};
 use crate::courses::{End, is_ended};
 use crate::given::Before;
 use crate::stand_ins::Way;
@@ -418,7 +418,7 @@ fn short_rests<R: Threads + Wait + Clock + Abort + Copy + Sync>(
     case: &Case,
     place: usize,
 ) -> u64 {
-    let found = in_memory(rt, alloc, &case.0, place);
+    let found = in_files(rt, alloc, u64::MAX, &case.0, place);
     assert!(rt; is_ended(&found, &case.1), "the end of case {place}");
     found.short
 }
