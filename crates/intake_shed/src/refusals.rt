@@ -65,6 +65,6 @@ fn fault_reply(fault: Fault) -> Reply
         Fault::WaitingFull => Reply::refused_now("{\"error\":\"WaitingFull\"}"),
         Fault::SeqExhausted => Reply::refused_now("{\"error\":\"SeqExhausted\"}"),
         Fault::BatchOut => Reply::refused_now("{\"error\":\"BatchOut\"}"),
-        Fault::OutOfMemory => Reply::refused_now("{\"error\":\"OutOfMemory\"}"),
+        Fault::OutOfMemory => Reply::out_of_memory(),
     }
 }
