@@ -80,11 +80,11 @@ told_line fault = fault_line (told_text fault)
 
 -- What standard error gets: nothing where the command is done, and else a front of the fault's line (all of it where
 -- the writer takes it).
-abbrev pub Tells : Result (Unit {0}) CommandFault → Option (List ℕ) → Option (List ℕ) → Type 0
-Tells (Ok done) old new = Keeps old new
-Tells (Err fault) old new = AppendsFront old new (told_line fault)
+abbrev pub ReportsEnd : Result (Unit {0}) CommandFault → Option (List ℕ) → Option (List ℕ) → Type 0
+ReportsEnd (Ok done) old new = Keeps old new
+ReportsEnd (Err fault) old new = AppendsFront old new (told_line fault)
 
 -- The exit status and standard error, as it was and is, tell of one end, of which this holds.
 abbrev pub Reports : (Result (Unit {0}) CommandFault → Type 0) → Option (List ℕ) → Option (List ℕ) → ℕ → Type 0
 Reports Holds old new status =
-    (end : Result (Unit {0}) CommandFault) × (status ≡ exit_status end) × Tells end old new × Holds end
+    (end : Result (Unit {0}) CommandFault) × (status ≡ exit_status end) × ReportsEnd end old new × Holds end

@@ -5,7 +5,7 @@ ghost use Rattle.text_lines.specs.Streams.{AppendsFront};
 ghost use Rattle.text_lines.specs.declared.fault.StreamFault.TheVariants as command;
 ghost use Rattle.command_interface.specs.declared.exit_status.CommandFault.TheVariants.{Ended};
 ghost use Rattle.command_interface.specs.Reports.{argument_fault, open_fault, store_fault, file_fault_name};
-ghost use Rattle.command_interface.specs.Reports.{store_fault_name, exit_status, told_text, fault_line, Tells};
+ghost use Rattle.command_interface.specs.Reports.{store_fault_name, exit_status, told_text, fault_line, ReportsEnd};
 
 use arrayvec::ArrayString;
 use relay_types::ReadFault;
@@ -184,7 +184,7 @@ fn store_fault(error: Error) -> CommandFault
 /// was read, 4 the relay doesn't take the file, 3 the rest.
 pub fn end<E: Write>(errors: &mut E, end: Result<(), CommandFault>) -> u8
     ensures status { result ≡ exit_status end }
-    ensures tells { Tells end (E.contents errors.old) (E.contents errors.new) }
+    ensures tells { ReportsEnd end (E.contents errors.old) (E.contents errors.new) }
     ensures most { result ≤ 4 }
 {
     match end {

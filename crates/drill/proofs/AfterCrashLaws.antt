@@ -18,10 +18,10 @@ use Rattle.drill.specs.Events.{HasFirst, KeepsFirst, EventRun}
 use Rattle.drill.specs.Moves.{Session, begun}
 use Rattle.drill.specs.AfterCrashes.{CallsKeepWhatWasShown, HasRecordsLeft, RestartsKeepWhatWasShown, RunsAfterCrashes}
 use Rattle.drill.specs.AfterCrashes.{RunsGoOn, StopsKeepWhatWasShown}
-use Rattle.drill.specs.BesideCommit.{HasMarksInOrder}
+use Rattle.drill.specs.BesideCommit.{HasCountsInOrder}
 use Rattle.drill.specs.Worlds.{IsOpening, session_of}
 use Rattle.drill.proofs.AttemptLaws.{IsTracked, opening_tracked, run_tracked}
-use Rattle.drill.proofs.GoingLaws.{event_goes_on, opening_marks, run_goes_on, same_first_records}
+use Rattle.drill.proofs.GoingLaws.{event_goes_on, opening_counts, run_goes_on, same_first_records}
 use Rattle.drill.proofs.RestartLaws.{after_lines, ordered, shorter}
 use Rattle.drill.proofs.ShownLaws.{IsOrdered, event_keeps, event_shown, first_kept, settled_count}
 
@@ -29,7 +29,7 @@ pub go_on : RunsGoOn
 go_on s last events replies n marks run = (run_goes_on events replies s last n marks run).0
 
 -- what a run shows is settled at its end, and so is what was settled before
-run_settles : (events : List Event) (replies : List Reply) (s last : Session) (n : ℕ) → HasMarksInOrder s.world
+run_settles : (events : List Event) (replies : List Reply) (s last : Session) (n : ℕ) → HasCountsInOrder s.world
     → EventRun s events replies last n → (n ≤ settled_count last.world)
     × (settled_count s.world ≤ settled_count last.world)
 run_settles [] [] s last n marks (same, none) =
@@ -78,10 +78,10 @@ run_has w events replies last m n records opening run (within, same) = record {
     arith,
     within,
     opening_settled w opening,
-    (run_settles events replies (session_of w) last m (opening_marks w opening) run).1,
+    (run_settles events replies (session_of w) last m (opening_counts w opening) run).1,
   );
   same = same_first_records w last.world n
-      (run_goes_on events replies (session_of w) last m (opening_marks w opening) run).0 within ∙ same;
+      (run_goes_on events replies (session_of w) last m (opening_counts w opening) run).0 within ∙ same;
 }
 
 runs_have : (runs : List (List Event × List Reply)) (w last : World) (n : ℕ) (records : List Record)
@@ -96,7 +96,7 @@ pub restarts_keep : RestartsKeepWhatWasShown
 restarts_keep w last events replies first n runs opening run again = kept last n (all_records first.world)
     (runs_have runs first.world last n (all_records first.world) (record {
       tracked = run_tracked (session_of w) events replies first n (opening_tracked w opening) run;
-      settled = (run_settles events replies (session_of w) first n (opening_marks w opening) run).0;
+      settled = (run_settles events replies (session_of w) first n (opening_counts w opening) run).0;
       same = refl;
     }) again)
 

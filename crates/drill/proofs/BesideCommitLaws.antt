@@ -44,12 +44,12 @@ use Rattle.drill.specs.Moves.{gives, published_reply, staged_reply, stages, stay
 use Rattle.drill.specs.Moves.{with_tickets}
 use Rattle.drill.specs.Runs.{CallMove}
 use Rattle.drill.specs.Tickets.{find_ticket}
-use Rattle.drill.specs.BesideCommit.{CallsChangePlacesWithCommits, HasMarksInOrder, RunsKeepMarksInOrder, commit}
+use Rattle.drill.specs.BesideCommit.{CallsChangePlacesWithCommits, HasCountsInOrder, RunsKeepCountsInOrder, commit}
 use Rattle.drill.specs.BesideCommit.{is_line_beside_commit, is_beside_commit}
 use Rattle.drill.specs.Worlds.{session_of}
 use Rattle.drill.proofs.CoreLaws.{Goes, goes_change, goes_claim, goes_over, goes_publish, goes_submit, is_claim}
 use Rattle.drill.proofs.CoreLaws.{same_first, stages_nothing}
-use Rattle.drill.proofs.GoingLaws.{marks_go, opening_marks, run_goes_on}
+use Rattle.drill.proofs.GoingLaws.{counts_go, opening_counts, run_goes_on}
 use Rattle.drill.proofs.ShownLaws.{event_shown}
 use Rattle.drill.proofs.BatchLaws.{answer_by}
 
@@ -395,7 +395,7 @@ commit_told s next told out (line, is, move) = at (subst (λ x. MayReply (commit
         (Doubt, s.world.settled ∷ s.world.sealed ∷ [], inr (inr (is ∙ ap reply.Line given.0, refl, refl)), given.1)
     at (inr (inr (inr none))) = absurd none
 
-seen_goes : (w next : World) → Goes w next → HasMarksInOrder w → seen w ≡ seen next
+seen_goes : (w next : World) → Goes w next → HasCountsInOrder w → seen w ≡ seen next
 seen_goes w next g marks =
     let count : length (sealed_records w) ≡ length (sealed_records next) = ap length
     (same_first w next w.sealed g marks.1 ∙ ap (λ k. records_of (take k next.history)) (sym g.sealed)) in
@@ -411,7 +411,7 @@ record IsBefore (s : Session) (event : Event) (told committed : Reply) (last : S
   ends : EventMove mid commit committed last
 
 commit_after_call : (s mid last : Session) (event : Event) (told committed : Reply) → s.world.out ≡ Batch
-    → HasMarksInOrder s.world → is_beside_commit event ≡ true
+    → HasCountsInOrder s.world → is_beside_commit event ≡ true
     → EventMove s commit committed mid → EventMove mid event told last → IsBefore s event told committed last
 commit_after_call s mid last event told committed out marks within commits makes =
     let (o, left, how, is) = commit_told s mid committed out commits in
@@ -432,7 +432,7 @@ commit_after_call s mid last event told committed out marks within commits makes
     }
 
 commit_before_call : (s next last : Session) (event : Event) (told committed : Reply) → s.world.out ≡ Batch
-    → HasMarksInOrder s.world → is_beside_commit event ≡ true
+    → HasCountsInOrder s.world → is_beside_commit event ≡ true
     → EventMove s event told next → EventMove next commit committed last → (mid : Session)
     × EventMove s commit committed mid
     × EventMove mid event told last
@@ -468,14 +468,14 @@ shows w (on.Line event) (reply.Line told) o left = line_shows w event told o lef
 shows w (on.Line event) told o left = refl
 shows w (on.Look asked) told o left = refl
 
-settled_as : (w next : World) → Goes w next → HasMarksInOrder w
+settled_as : (w next : World) → Goes w next → HasCountsInOrder w
     → length (settled_records w) ≡ length (settled_records next)
 settled_as w next g marks = ap length (same_first w next w.settled g (omega (arith, marks.0, marks.1))
     ∙ ap (λ k. records_of (take k next.history)) (sym g.settled))
 
 -- calls that may be made within show no more than was settled
 run_shows : (events : List Event) (replies : List Reply) (s last : Session) (n : ℕ) → is_nothing_out s.world.out ≡ false
-    → HasMarksInOrder s.world → list_all is_beside_commit events ≡ true
+    → HasCountsInOrder s.world → list_all is_beside_commit events ≡ true
     → EventRun s events replies last n → n ≤ length (settled_records s.world)
 run_shows [] [] s last n some marks within (same, none) = omega (arith, none)
 run_shows (event ∷ events) (told ∷ replies) s last n some marks within (next, later, makes, rest, is) =
@@ -484,7 +484,7 @@ run_shows (event ∷ events) (told ∷ replies) s last n some marks within (next
     (event_whatever_is_out s next event told s.world.out s.world.out s.world.left s.world.left both.0 some some makes).0
     in
     let below = run_shows events replies next last later (ap is_nothing_out goes.out ∙ some)
-    (marks_go s.world next.world goes marks) both.1 rest in
+    (counts_go s.world next.world goes marks) both.1 rest in
     omega (
       arith,
       is,
@@ -511,7 +511,7 @@ shows_same_after_commit s mid event told committed out commits =
 
 -- the commit comes last
 commit_moved_last : (events : List Event) (replies : List Reply) (s last : Session) (committed : Reply) (n : ℕ)
-    → s.world.out ≡ Batch → HasMarksInOrder s.world → list_all is_beside_commit events ≡ true
+    → s.world.out ≡ Batch → HasCountsInOrder s.world → list_all is_beside_commit events ≡ true
     → EventRun s (commit ∷ events) (committed ∷ replies) last n
     → EventRun s (events ++ commit ∷ []) (replies ++ committed ∷ []) last n
 commit_moved_last [] [] s last committed n out marks within run = run
@@ -521,7 +521,7 @@ commit_moved_last (event ∷ events) (told ∷ replies) s last committed n out m
     let h = commit_after_call s mid next event told committed out marks both.0 commits makes in
     let run = commit_moved_last events replies h.mid last committed (max (shown h.mid.world commit committed) more)
     (h.goes.out
-    ∙ out) (marks_go s.world h.mid.world h.goes marks) both.1 (next, more, h.ends, rest, refl) in (
+    ∙ out) (counts_go s.world h.mid.world h.goes marks) both.1 (next, more, h.ends, rest, refl) in (
       h.mid,
       max (shown h.mid.world commit committed) more,
       h.makes,
@@ -541,7 +541,7 @@ commit_moved_last (event ∷ events) [] s last committed n out marks within (mid
 -- the commit comes first
 commit_moved_first : (events : List Event) (replies : List Reply) (s last : Session) (committed : Reply) (n : ℕ)
     → s.world.out ≡ Batch
-    → HasMarksInOrder s.world → list_all is_beside_commit events ≡ true
+    → HasCountsInOrder s.world → list_all is_beside_commit events ≡ true
     → EventRun s (events ++ commit ∷ []) (replies ++ committed ∷ []) last n
     → EventRun s (commit ∷ events) (committed ∷ replies) last n
 commit_moved_first [] [] s last committed n out marks within run = run
@@ -553,7 +553,7 @@ commit_moved_first (event ∷ events) (told ∷ replies) s last committed n out 
     (event_whatever_is_out s next event told s.world.out s.world.out s.world.left s.world.left both.0 some some makes).0
     in
     let (after, more, commits, rest, is) = commit_moved_first events replies next last committed later (goes.out ∙ out)
-    (marks_go s.world next.world goes marks) both.1 run in
+    (counts_go s.world next.world goes marks) both.1 run in
     let (mid, first, behind) = commit_before_call s next after event told committed out marks both.0 makes commits in (
       mid,
       max (shown mid.world event told) more,
@@ -599,6 +599,6 @@ calls_change_places s last events replies committed n out marks within = (
 
 -- The marks stay in order
 
-pub runs_keep_marks : RunsKeepMarksInOrder
-runs_keep_marks w events replies last n opening run =
-    (run_goes_on events replies (session_of w) last n (opening_marks w opening) run).1
+pub runs_keep_counts : RunsKeepCountsInOrder
+runs_keep_counts w events replies last n opening run =
+    (run_goes_on events replies (session_of w) last n (opening_counts w opening) run).1

@@ -16,7 +16,7 @@ use Rattle.drill.specs.Cores.{is_commit}
 use Rattle.drill.specs.Events.{HasFirst, KeepsFirst, EventMove, EventRun}
 use Rattle.drill.specs.Moves.{Session}
 use Rattle.drill.specs.Runs.{CallMove}
-use Rattle.drill.specs.BesideCommit.{HasMarksInOrder}
+use Rattle.drill.specs.BesideCommit.{HasCountsInOrder}
 use Rattle.drill.specs.Worlds.{ArePrefixAfterCrash, GoesOn, IsOpening}
 use Rattle.drill.proofs.CoreLaws.{Goes}
 use Rattle.drill.proofs.FollowLaws.{by_call, commits_follow, follows, sealed_within}
@@ -36,8 +36,8 @@ goes_on_by w mid next a b = record {
   settled = omega (arith, a.settled, b.settled);
 }
 
-pub marks_go : (w next : World) → Goes w next → HasMarksInOrder w → HasMarksInOrder next
-marks_go w next g marks = (
+pub counts_go : (w next : World) → Goes w next → HasCountsInOrder w → HasCountsInOrder next
+counts_go w next g marks = (
   omega (arith, marks.0, g.settled, g.sealed),
   omega
       (arith, marks.1, g.sealed, ap length g.history, length-append w.history g.more),
@@ -45,9 +45,9 @@ marks_go w next g marks = (
 
 -- the world goes on, and its marks are in order
 abbrev GoesInOrder : World → World → Type 0
-GoesInOrder w next = GoesOn w next × HasMarksInOrder next
+GoesInOrder w next = GoesOn w next × HasCountsInOrder next
 
-pub line_goes_on : (s next : Session) (event : line.Call) (told : line_reply.Reply) → HasMarksInOrder s.world
+pub line_goes_on : (s next : Session) (event : line.Call) (told : line_reply.Reply) → HasCountsInOrder s.world
     → CallMove s event told next → GoesInOrder s.world next.world
 line_goes_on s next event told marks move = by_call (GoesInOrder s.world) s next event told desk
     (commits_follow (GoesInOrder s.world) s next told s.world.out refl stays
@@ -62,7 +62,7 @@ line_goes_on s next event told marks move = by_call (GoesInOrder s.world) s next
       stays = stays;
       goes = λ other g. (
         record { more = g.more; history = g.history; settled = omega (arith, g.settled) },
-        marks_go
+        counts_go
             s.world other g marks,
       );
       seals = λ going free. (
@@ -74,13 +74,13 @@ line_goes_on s next event told marks move = by_call (GoesInOrder s.world) s next
       halts = λ other. (stays_on s.world _ refl (omega arith), marks);
     }) move
 
-pub event_goes_on : (s next : Session) (event : Event) (told : Reply) → HasMarksInOrder s.world
+pub event_goes_on : (s next : Session) (event : Event) (told : Reply) → HasCountsInOrder s.world
     → EventMove s event told next → GoesInOrder s.world next.world
 event_goes_on s next (on.Line event) told marks (line, is, move) = line_goes_on s next event line marks move
 event_goes_on s next (on.Look asked) told marks (is, same) = subst (λ (t : Session). GoesInOrder s.world t.world)
     (sym same) (stays_on s.world s.world refl (omega arith), marks)
 
-pub run_goes_on : (events : List Event) (replies : List Reply) (s last : Session) (n : ℕ) → HasMarksInOrder s.world
+pub run_goes_on : (events : List Event) (replies : List Reply) (s last : Session) (n : ℕ) → HasCountsInOrder s.world
     → EventRun s events replies last n → GoesInOrder s.world last.world
 run_goes_on [] [] s last n marks (same, none) = subst (λ (t : Session). GoesInOrder s.world t.world) (sym same)
     (stays_on s.world s.world refl (omega arith), marks)
@@ -91,8 +91,8 @@ run_goes_on (event ∷ events) (told ∷ replies) s last n marks (next, later, m
 run_goes_on [] (told ∷ replies) s last n marks run = absurd run
 run_goes_on (event ∷ events) [] s last n marks run = absurd run
 
-pub opening_marks : (w : World) → IsOpening w → HasMarksInOrder w
-opening_marks w (history, clock, is) = subst HasMarksInOrder (sym is) (omega arith, omega arith)
+pub opening_counts : (w : World) → IsOpening w → HasCountsInOrder w
+opening_counts w (history, clock, is) = subst HasCountsInOrder (sym is) (omega arith, omega arith)
 
 -- What stays in its place
 
@@ -103,7 +103,7 @@ same_first_records w next n g below =
     ∙ take-append-le n (all_records w) (records_of g.more) below
 
 -- Whatever survives a crash begins with what was there in the opening.
-pub opening_is_prefix : (w next : World) → IsOpening w → GoesOn w next → HasMarksInOrder next → LeavesBy next.out next
+pub opening_is_prefix : (w next : World) → IsOpening w → GoesOn w next → HasCountsInOrder next → LeavesBy next.out next
     → ArePrefixAfterCrash (all_records w) next
 opening_is_prefix w next (history, clock, is) g marks leaves = each_left (λ steps. (more : List Record)
     × (records_of_first next steps ≡ all_records w ++ more)) next next.out leaves

@@ -54,7 +54,7 @@ use Rattle.drill.specs.declared.runs.World as left
 use Rattle.drill.proofs.CommitLaws.{rows_kept}
 use Rattle.drill.proofs.CoreLaws.{same_first}
 use Rattle.drill.proofs.FollowLaws.{by_call, commits_follow, follows}
-use Rattle.drill.proofs.GoingLaws.{settled_survive_crash, opening_is_prefix, opening_marks, run_goes_on}
+use Rattle.drill.proofs.GoingLaws.{settled_survive_crash, opening_is_prefix, opening_counts, run_goes_on}
 use Rattle.drill.proofs.AttemptLaws.{attempts_pending_again}
 use Rattle.drill.proofs.BatchLaws.{settled_and_batch}
 
@@ -408,7 +408,7 @@ pub run_from : {L S : Type 0} (g : Ghosts S) (first : Core L) (before : VaultVal
     → to.receipt ≡ receipt_of core.held → to.held ≡ given_of core.held → IsRunFrom g (session_of w) events to
 run_from g first before core w events to opening started takes desk permits receipt given =
     let (last, n, run, on, below) = takes (session_of w) started in
-    let going = run_goes_on events to.replies.items (session_of w) last n (opening_marks w opening) run in record {
+    let going = run_goes_on events to.replies.items (session_of w) last n (opening_counts w opening) run in record {
       last = last;
       acknowledged = n;
       runs = run;

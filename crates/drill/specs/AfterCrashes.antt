@@ -14,7 +14,7 @@ use Rattle.drill.specs.declared.runs.World as left
 use Rattle.drill.specs.Events.{EventRun, KeepsFirst}
 use Rattle.drill.specs.Moves.{Session, begun}
 use Rattle.drill.specs.Restarts.{LineRun}
-use Rattle.drill.specs.BesideCommit.{HasMarksInOrder}
+use Rattle.drill.specs.BesideCommit.{HasCountsInOrder}
 use Rattle.drill.specs.Worlds.{GoesOn, IsOpening, IsRunFrom, session_of}
 
 -- A law: a run leads to a world that goes on from the one in which it began. So a run loses no
@@ -22,7 +22,7 @@ use Rattle.drill.specs.Worlds.{GoesOn, IsOpening, IsRunFrom, session_of}
 abbrev pub RunsGoOn : Type 0
 RunsGoOn =
     (s last : Session) (events : List Event) (replies : List Reply) (acknowledged : ℕ)
-    → HasMarksInOrder s.world → EventRun s events replies last acknowledged → GoesOn s.world last.world
+    → HasCountsInOrder s.world → EventRun s events replies last acknowledged → GoesOn s.world last.world
 
 -- the other world has the records of this world's first steps, for one of these numbers of steps
 abbrev pub HasRecordsLeft : World → (numbers : List ℕ) → World → Type 0

@@ -30,14 +30,14 @@ is_beside_commit (on.Line event) = is_line_beside_commit event
 is_beside_commit (on.Look asked) = true
 
 -- what is settled is sealed, and what is sealed is there
-abbrev pub HasMarksInOrder : World → Type 0
-HasMarksInOrder w = (w.settled ≤ w.sealed) × (w.sealed ≤ length w.history)
+abbrev pub HasCountsInOrder : World → Type 0
+HasCountsInOrder w = (w.settled ≤ w.sealed) × (w.sealed ≤ length w.history)
 
--- A law: every session that a run reaches from an opening has its marks in order.
-abbrev pub RunsKeepMarksInOrder : Type 0
-RunsKeepMarksInOrder =
+-- A law: every session that a run reaches from an opening has its counts in order.
+abbrev pub RunsKeepCountsInOrder : Type 0
+RunsKeepCountsInOrder =
     (w : World) (events : List Event) (replies : List Reply) (last : Session) (acknowledged : ℕ)
-    → IsOpening w → EventRun (session_of w) events replies last acknowledged → HasMarksInOrder last.world
+    → IsOpening w → EventRun (session_of w) events replies last acknowledged → HasCountsInOrder last.world
 
 -- A law: the commit of a batch may come before calls of other threads or after them. Every run in
 -- one order is a run in the other, with the same replies and the same last session. It acknowledges
@@ -45,7 +45,7 @@ RunsKeepMarksInOrder =
 abbrev pub CallsChangePlacesWithCommits : Type 0
 CallsChangePlacesWithCommits =
     (s last : Session) (events : List Event) (replies : List Reply) (committed : Reply) (acknowledged : ℕ)
-    → s.world.out ≡ Batch → HasMarksInOrder s.world → IsTrue (list_all is_beside_commit events)
+    → s.world.out ≡ Batch → HasCountsInOrder s.world → IsTrue (list_all is_beside_commit events)
     → (EventRun s (commit ∷ events) (committed ∷ replies) last acknowledged
     ↔ EventRun s (events ++ commit ∷ []) (replies ++ committed ∷ []) last acknowledged)
     × (EventRun s (commit ∷ events) (committed ∷ replies) last acknowledged

@@ -26,7 +26,7 @@ pub use crate::runs::{World, run};
 pub use crate::scripts::replay;
 pub use crate::theorems::{
     calls_change_places_with_commits, calls_keep_what_was_shown, refusals_of_moves,
-    restarts_keep_what_was_shown, runs_go_on, runs_keep_marks_in_order, served_runs_are_computed,
+    restarts_keep_what_was_shown, runs_go_on, runs_keep_counts_in_order, served_runs_are_computed,
     stops_keep_what_was_shown,
 };
 pub use crate::unrecorded::attempts_are_pending_again;

@@ -3,7 +3,7 @@ ghost use Rattle.drill.specs.AfterCrashes.{CallsKeepWhatWasShown, RestartsKeepWh
 ghost use Rattle.drill.specs.AfterCrashes.{StopsKeepWhatWasShown};
 ghost use Rattle.drill.specs.Refusals.{RefusalsOfMoves};
 ghost use Rattle.drill.specs.Runs.{AreServedRunsComputed};
-ghost use Rattle.drill.specs.BesideCommit.{CallsChangePlacesWithCommits, RunsKeepMarksInOrder};
+ghost use Rattle.drill.specs.BesideCommit.{CallsChangePlacesWithCommits, RunsKeepCountsInOrder};
 
 use sqlite::Alter;
 use std::sync::ledger::Ledger;
@@ -23,8 +23,8 @@ pub fn calls_change_places_with_commits()
 
 /// That law's condition holds for each session that a run reaches: no more steps are settled than
 /// are sealed, and no more are sealed than there are.
-pub fn runs_keep_marks_in_order()
-    ensures { RunsKeepMarksInOrder }
+pub fn runs_keep_counts_in_order()
+    ensures { RunsKeepCountsInOrder }
 {}
 
 /// A law of refusals: no call of a run is refused as Closed, OutOfTurn or Illegal. Only a halt

@@ -12,30 +12,30 @@ use Rattle.relay_types.proofs.RowLaws.{find_map}
 use Rattle.endpoint_book.specs.declared.entry.Entry.{Entry}
 use Rattle.endpoint_book.specs.declared.entry.Shown.{Shown}
 use Rattle.endpoint_book.specs.Entries.{BookValue, entry_of, now_of}
-use Rattle.endpoint_book.specs.Book.{Tells, endpoint_by_entry, shown_of, secrets_if_known, view_of, view_by}
+use Rattle.endpoint_book.specs.Book.{Agrees, endpoint_by_entry, shown_of, secrets_if_known, view_of, view_by}
 
 -- The endpoint of an entry
 
-pub endpoint-entry : (book : BookValue) (records : List Record) (name : List ℕ) → Tells book records
+pub endpoint-entry : (book : BookValue) (records : List Record) (name : List ℕ) → Agrees book records
     → endpoint_of records name ≡ option_map endpoint_by_entry (entry_of book name)
 endpoint-entry book records name h = grind (arith, find_map)
 
-pub known-entry : (book : BookValue) (records : List Record) (name : List ℕ) → Tells book records
+pub known-entry : (book : BookValue) (records : List Record) (name : List ℕ) → Agrees book records
     → is_some (entry_of book name) ≡ has_endpoint records name
 known-entry book records name h = grind (arith, endpoint-entry book records name h)
 
 -- what all records show of it
-pub shown-now : (book : BookValue) (records : List Record) (name : List ℕ) → Tells book records
+pub shown-now : (book : BookValue) (records : List Record) (name : List ℕ) → Agrees book records
     → shown_of records name ≡ option_map now_of (entry_of book name)
 shown-now book records name h = grind (arith, endpoint-entry book records name h, h.enabled name, h.secrets name)
 
-pub secrets-told : (book : BookValue) (records : List Record) (name : List ℕ) → Tells book records
+pub secrets-told : (book : BookValue) (records : List Record) (name : List ℕ) → Agrees book records
     → option_map (λ e. e.secrets) (entry_of book name) ≡ secrets_if_known records name
 secrets-told book records name h = grind (arith, endpoint-entry book records name h, h.secrets name)
 
 -- what is asked of the endpoint is asked of the entry
 pub field-told : {X : Type 0} (book : BookValue) (records : List Record) (name : List ℕ) (f : Endpoint → X)
-    → Tells book records
+    → Agrees book records
     → option_map (λ e. f (endpoint_by_entry e)) (entry_of book name) ≡ option_map f (endpoint_of records name)
 field-told book records name f h = grind (arith, endpoint-entry book records name h)
 
@@ -43,7 +43,7 @@ names_kept : (es : List Entry) → map (λ e. e.name) es ≡ map (λ e. e.name) 
 names_kept [] = refl
 names_kept (e ∷ es) = grind (arith, names_kept es)
 
-pub names-told : (book : BookValue) (records : List Record) → Tells book records
+pub names-told : (book : BookValue) (records : List Record) → Agrees book records
     → map (λ e. e.name) book.entries ≡ map (λ e. e.name) (endpoints records)
 names-told book records h = names_kept book.entries ∙ ap (map (λ (e : Endpoint). e.name)) h.endpoints
 
@@ -74,6 +74,6 @@ shown-none records place name none = grind (arith, endpoint-front)
 
 -- an endpoint as the first records show it
 pub view-front : (book : BookValue) (records : List Record) (place : ℕ) (name : List ℕ) (o : Option Shown)
-    → Tells book records → o ≡ shown_of (take place records) name
+    → Agrees book records → o ≡ shown_of (take place records) name
     → option_and_then (λ e. option_map (view_by e) o) (entry_of book name) ≡ view_of (take place records) name
 view-front book records place name o h shown = grind (arith, endpoint-entry book records name h, endpoint-front)

@@ -17,7 +17,7 @@ use Rattle.endpoint_book.specs.declared.entry.Entry.{Entry}
 use Rattle.endpoint_book.specs.Entries.{BookValue, entry_of, is_flag, is_put, is_from, is_below, shown_at, settled_at}
 use Rattle.endpoint_book.specs.Entries.{with_settled, with_topic}
 use Rattle.endpoint_book.specs.Topics.{TellsTopics, TopicsValue, flag_of, with_pair}
-use Rattle.endpoint_book.specs.Book.{StandsFor, Tells, Shows, endpoint_by_entry, settled_in, count_from, sets_flag}
+use Rattle.endpoint_book.specs.Book.{StandsFor, Agrees, Shows, endpoint_by_entry, settled_in, count_from, sets_flag}
 use Rattle.endpoint_book.specs.Book.{is_other, shown_of, view_of, settled_view}
 use Rattle.endpoint_book.specs.Laws.{IsIdle}
 use Rattle.endpoint_book.proofs.Shown.{shown_in_turn, shown_still, from_later, from_all}
@@ -48,7 +48,7 @@ stands-beside book records settled r ts next h legal enabled secrets same told w
   settled_seq = h.settled_seq;
 }
   where
-    tells : Tells (beside book ts next) (records ++ r ∷ [])
+    tells : Agrees (beside book ts next) (records ++ r ∷ [])
     tells = record {
       enabled = λ asked. h.tells.enabled asked ∙ sym (enabled asked);
       secrets = λ asked. h.tells.secrets asked ∙ sym (secrets asked);

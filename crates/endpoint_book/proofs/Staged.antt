@@ -25,7 +25,7 @@ use Rattle.endpoint_book.specs.declared.entry.Kind.TheVariants.{Put, Secrets, Fl
 use Rattle.endpoint_book.specs.Entries.{BookValue, entry_of, is_known, is_named, now_of, is_flag, is_put, is_flag_kind}
 use Rattle.endpoint_book.specs.Entries.{is_put_kind, is_from, shown_with, change_at, with_put, with_change, with_flag}
 use Rattle.endpoint_book.specs.Entries.{with_secrets}
-use Rattle.endpoint_book.specs.Book.{StandsFor, Tells, Shows, endpoint_by_entry, enabled_in, secrets_in, settled_in}
+use Rattle.endpoint_book.specs.Book.{StandsFor, Agrees, Shows, endpoint_by_entry, enabled_in, secrets_in, settled_in}
 use Rattle.endpoint_book.specs.Book.{count_from, sets_flag}
 use Rattle.endpoint_book.proofs.Names.{change_at-name}
 use Rattle.endpoint_book.proofs.Pairs.{flag_unnamed, names_topic, topics-same}
@@ -48,7 +48,7 @@ more book es c = record book { entries = es; changes = book.changes ++ c ∷ [];
 
 shows-more : (book : BookValue) (records : List Record) (settled : ℕ) (r : Record) (c : Change) (es : List Entry)
     (place : ℕ) → StandsFor book records settled → c.seq ≡ length records → settled ≤ place
-    → Tells (more book es c) (records ++ r ∷ [])
+    → Agrees (more book es c) (records ++ r ∷ [])
     → ((name : List ℕ) → settled_in (more book es c) name ≡ settled_in book name)
     → ((name : List ℕ) → (if bytes_eq c.name name then Some c.shown else option_map now_of (entry_of book name))
     ≡ option_map now_of (entry_of (more book es c) name))
@@ -116,7 +116,7 @@ flags-more book records settled r c place h at_end later flag = grind (arith, co
 
 stands-more : (book : BookValue) (records : List Record) (settled : ℕ) (r : Record) (c : Change) (es : List Entry)
     → StandsFor book records settled → IsLegal (records ++ r ∷ []) → c.seq ≡ length records
-    → Tells (more book es c) (records ++ r ∷ [])
+    → Agrees (more book es c) (records ++ r ∷ [])
     → ((name : List ℕ) → settled_in (more book es c) name ≡ settled_in book name)
     → ((name : List ℕ) → (if bytes_eq c.name name then Some c.shown else option_map now_of (entry_of book name))
     ≡ option_map now_of (entry_of (more book es c) name))

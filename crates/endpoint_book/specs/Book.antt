@@ -48,7 +48,7 @@ sets_flag (on.Outcome delivery attempt status at) = is_gone_status status
 sets_flag entry = false
 
 -- what the book has of all records
-pub record Tells (book : BookValue) (records : List Record) : Type 0 where
+pub record Agrees (book : BookValue) (records : List Record) : Type 0 where
   pub enabled : (name : Text) → enabled_in book name ≡ is_enabled records name
   pub secrets : (name : Text) → secrets_in book name ≡ secrets_of records name
   pub endpoints : map endpoint_by_entry book.entries ≡ endpoints records
@@ -62,7 +62,7 @@ pub record Shows (book : BookValue) (place : Seq) (records : List Record) : Type
 -- the book stands for these records, of which so many are settled
 pub record StandsFor (book : BookValue) (records : List Record) (settled : ℕ) : Type 0 where
   pub legal : IsLegal records
-  pub tells : Tells book records
+  pub tells : Agrees book records
   pub shows : (place : Seq) → settled ≤ place → Shows book place (take place records)
   pub flags : (place : Seq) → settled ≤ place
       → count_from is_flag place book.changes ≤ count_by sets_flag (drop place records)

@@ -109,14 +109,14 @@ at_other : (a b : ℕ) → a ≢ b → is_at (nat_cmp a) b ≡ false
 at_other a b ne = grind (arith, nat_tests)
 
 -- what is told of each event by the attempts so far, and by one more
-abbrev pub Tells : BTreeMap ℕ Progress → List Attempt → Type 0
-Tells so_far ts = (d : ℕ) → unwrap_or (get nat_cmp so_far d) no_progress ≡ progress_of
+abbrev pub Tracks : BTreeMap ℕ Progress → List Attempt → Type 0
+Tracks so_far ts = (d : ℕ) → unwrap_or (get nat_cmp so_far d) no_progress ≡ progress_of
     (filter (λ (s : Attempt). s.delivery == d) ts)
 
 pub tells_more : (old new : BTreeMap ℕ Progress) (ts more : List Attempt) (t : Attempt) (p : Progress)
     → ((q : ℕ) → get nat_cmp new q ≡ cond (is_at (nat_cmp t.delivery) q) (Some p) (get nat_cmp old q))
-    → more ≡ ts ++ t ∷ [] → Tells old ts
-    → p ≡ after_status (progress_of (filter (λ (s : Attempt). s.delivery == t.delivery) ts)) t.status → Tells new more
+    → more ≡ ts ++ t ∷ [] → Tracks old ts
+    → p ≡ after_status (progress_of (filter (λ (s : Attempt). s.delivery == t.delivery) ts)) t.status → Tracks new more
 tells_more old new ts more t p updated longer tells is d = subst
     (λ all. unwrap_or (get nat_cmp new d) no_progress ≡ progress_of (filter (λ (s : Attempt). s.delivery == d) all))
     (sym longer) (⊎_elim same other (cases_eq t.delivery d))
@@ -155,7 +155,7 @@ same_at (x ∷ xs) zero d e h = refl
 same_at (x ∷ xs) (suc n) d e h = same_at xs n d e (omega (arith, h))
 
 module _ (ts : List Attempt) (place : ℕ) (d : Attempt) (old : BTreeMap ℕ Progress) (p : Progress) (takes : Bool)
-    (up : IsAscending (λ (s : Attempt). s.seq) ts) (within : place < length ts) (tells : Tells old (take place ts))
+    (up : IsAscending (λ (s : Attempt). s.seq) ts) (within : place < length ts) (tells : Tracks old (take place ts))
     (is : p ≡ unwrap_or (get nat_cmp old (get_or ts place d).delivery) no_progress)
     (judged : takes ≡ may_come p (get_or ts place d)) where
   known : p ≡ progress_of (filter (λ (s : Attempt). s.delivery == (get_or ts place d).delivery) (take place ts))
@@ -177,6 +177,6 @@ module _ (ts : List Attempt) (place : ℕ) (d : Attempt) (old : BTreeMap ℕ Pro
 
   pub tells_at : (new : BTreeMap ℕ Progress) (after : Progress) → after ≡ after_status p (get_or ts place d).status
       → ((q : ℕ) → get nat_cmp new q ≡ cond (is_at (nat_cmp (get_or ts place d).delivery) q) (Some after)
-      (get nat_cmp old q)) → Tells new (take (place + 1) ts)
+      (get nat_cmp old q)) → Tracks new (take (place + 1) ts)
   tells_at new after made updated = tells_more old new (take place ts) (take (place + 1) ts) (get_or ts place d) after
       updated (take_more ts place d within) tells (made ∙ ap (λ q. after_status q (get_or ts place d).status) known)

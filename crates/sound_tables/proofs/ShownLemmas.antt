@@ -214,7 +214,7 @@ module _ {X R : Type 0} (shows : Shows X) (of : Row → Row) (stored : R → Row
   pub behind_show : (tree : List Row) (rs : List R) → IsPermutation (map (drop 1) tree) (map stored rs)
       → HasRowids tree → AllByRecursion Rules rs → AllByRecursion (λ r. (x : X) × shows (of r) x) tree
   behind_show tree rs same ids rules =
-      all_both IsNumbered Tells (λ r. (x : X) × shows (of r) x) shown tree ids.numbered
+      all_both IsNumbered IsBehind (λ r. (x : X) × shows (of r) x) shown tree ids.numbered
       (all_from_map Behind (drop 1) tree
       (all-permutation Behind _ _ (IsPermutation-sym _ _ same)
       (all-map Behind stored rs (all_weaker Rules (λ r. Behind (stored r)) (λ r holds. (r, refl, holds)) rs rules))))
@@ -225,10 +225,10 @@ module _ {X R : Type 0} (shows : Shows X) (of : Row → Row) (stored : R → Row
       Behind : Row → Type 0
       Behind r = (e : R) × (r ≡ stored e) × Rules e
 
-      Tells : Row → Type 0
-      Tells r = Behind (drop 1 r)
+      IsBehind : Row → Type 0
+      IsBehind r = Behind (drop 1 r)
 
-      shown : (r : Row) → IsNumbered r → Tells r → (x : X) × shows (of r) x
+      shown : (r : Row) → IsNumbered r → IsBehind r → (x : X) × shows (of r) x
       shown [] id h = absurd (some h.0 (sym h.1))
       shown (v ∷ r) id h = let n = int_of v id in each v r n.0 n.1 h.0 h.1 h.2
 

@@ -24,7 +24,7 @@ use Rattle.spool_sql.proofs.UpdateLemmas.{scanned_by, shows, passes}
 use Rattle.sqlite.specs.declared.error.Error.TheVariants.{SqliteFailure}
 use Rattle.sqlite.specs.declared.error.ErrorCode.TheVariants.{OperationInterrupted}
 use Rattle.sound_tables.specs.Reading.{Shows, Fits, Finds, IsFault, IsAnswerable, IsPlainText, Looks, Reads}
-use Rattle.sound_tables.specs.Tables.{AreByFirst, HasShown, LacksShown, Tells}
+use Rattle.sound_tables.specs.Tables.{AreByFirst, HasShown, LacksShown, Yields}
 use Rattle.sound_tables.proofs.Texts.{ReadsTree, ReadsUnder, compiled_as, whole, in_order}
 use Rattle.sound_tables.proofs.KeyOrder.{ShowsKey, by_first}
 
@@ -121,7 +121,7 @@ module _ {X : Type 0} (is_shown : Shows X) (Known : Schema → Type 0) (text : L
       h.1.2 some.0 some.1
 
   tells : (r : Result (Option (Vec X Global)) Error) → IfOk r (Finds is_shown text a b)
-      → IfOk r (Tells is_shown (shows [] shown) (a.now.trees t))
+      → IfOk r (Yields is_shown (shows [] shown) (a.now.trees t))
   tells (Ok (Some xs)) h = has_shown xs.items h
   tells (Ok None) h = lacks_shown [] h
   tells (Err e) h = tt
@@ -147,7 +147,7 @@ module _ (Known : Schema → Type 0) (text : List ℕ) (t : ℕ) (shown : List T
       (r : Result (Option (Vec X Global)) Error) → Looks g old new
       → IfClean g old new (λ a b. IfOk r (Finds is_shown text a b))
       → IfClean g old new (λ a b. IfErr r (IsFault text a b))
-      → Reads g Known (λ db. Tells is_shown (shows [] shown) (db.trees t)) old new r
+      → Reads g Known (λ db. Yields is_shown (shows [] shown) (db.trees t)) old new r
   reads_whole g is_shown first old new r looks taken fault = record {
     looks = looks;
     found = λ clean known. tells is_shown Known text t shown names reads first (state g old) (state g new) known r

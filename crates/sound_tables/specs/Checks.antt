@@ -19,7 +19,7 @@ use Rattle.spool_sql.specs.Causes.{cause}
 use Rattle.spool_sql.specs.declared.cause.Cause.TheVariants.{Other}
 use Rattle.spool_sql.specs.Readable.{IsRefusal}
 use Rattle.sound_tables.specs.Shown.{ShowsMeta, ShowsEndpoint, ShowsSecret, ShowsDelivery, ShowsAttempt, ShowsTopic}
-use Rattle.sound_tables.specs.Tables.{HasShown, LacksShown, Tells, meta_columns, endpoint_columns, secret_columns}
+use Rattle.sound_tables.specs.Tables.{HasShown, LacksShown, Yields, meta_columns, endpoint_columns, secret_columns}
 use Rattle.sound_tables.specs.Tables.{delivery_columns, attempt_columns, topic_columns}
 use Rattle.sound_tables.specs.declared.meta.Meta.{Meta}
 use Rattle.sound_tables.specs.declared.secret.Secret.{Secret}
@@ -124,12 +124,13 @@ HasRecords version db records = HasMeta db (record { key = pos 1; version = pos 
 
 abbrev pub TellsEndpoints : Database → Option (Vec Endpoint Global) → Option (Vec Secret Global) → Type 0
 TellsEndpoints db endpoints secrets =
-    Tells ShowsEndpoint endpoint_columns (db.trees 1) endpoints × Tells ShowsSecret secret_columns (db.trees 3) secrets
+    Yields ShowsEndpoint endpoint_columns (db.trees 1) endpoints
+    × Yields ShowsSecret secret_columns (db.trees 3) secrets
 
 abbrev pub TellsEvents : Database → Option (Vec Delivery Global) → Option (Vec Attempt Global) → Type 0
 TellsEvents db deliveries attempts =
-    Tells ShowsDelivery delivery_columns (db.trees 5) deliveries
-    × Tells ShowsAttempt attempt_columns (db.trees 7) attempts
+    Yields ShowsDelivery delivery_columns (db.trees 5) deliveries
+    × Yields ShowsAttempt attempt_columns (db.trees 7) attempts
 
 -- the rows of the table of topics, which version 1 doesn't have, show these values
 abbrev pub HasTopics : Version → Database → List Topic → Type 0
@@ -144,7 +145,7 @@ LacksTopics Second db = LacksShown ShowsTopic topic_columns (db.trees 9)
 abbrev pub TellsTopics : Version → Database → Option (Vec Topic Global) → Type 0
 TellsTopics First db (Some topics) = topics.items ≡ []
 TellsTopics First db None = ⊥
-TellsTopics Second db topics = Tells ShowsTopic topic_columns (db.trees 9) topics
+TellsTopics Second db topics = Yields ShowsTopic topic_columns (db.trees 9) topics
 
 -- the rows of the tables beside meta that a version has show these values
 pub record AreShown (v : Version) (db : Database) (rows : StoredRows) : Type 0 where

@@ -20,9 +20,10 @@ HasShown shows of tree xs = (rows : List Row) × IsPermutation (map of tree) row
 abbrev pub LacksShown : {X : Type 0} → Shows X → (of : Row → Row) → (tree : List Row) → Type 0
 LacksShown shows of tree = ¬ AllByRecursion (λ r. (x : _) × shows (of r) x) tree
 
-abbrev pub Tells : {X : Type 0} → Shows X → (of : Row → Row) → (tree : List Row) → Option (Vec X Global) → Type 0
-Tells shows of tree (Some xs) = HasShown shows of tree xs.items
-Tells shows of tree None = LacksShown shows of tree
+-- reading the whole table gives this answer
+abbrev pub Yields : {X : Type 0} → Shows X → (of : Row → Row) → (tree : List Row) → Option (Vec X Global) → Type 0
+Yields shows of tree (Some xs) = HasShown shows of tree xs.items
+Yields shows of tree None = LacksShown shows of tree
 
 -- what is read of a row of each table
 

@@ -8,7 +8,7 @@ ghost use Rattle.spool_sql.specs.Tables.{IsOwn};
 ghost use Rattle.sound_tables.specs.Checks.{AreSoundAt, HasMeta, HasRecords, IsRefusedMeta, RefusesAt, RefusesOld};
 ghost use Rattle.sound_tables.specs.Reading.{Looks};
 ghost use Rattle.sound_tables.specs.Shown.{ShowsMeta};
-ghost use Rattle.sound_tables.specs.Tables.{Tells, meta_columns};
+ghost use Rattle.sound_tables.specs.Tables.{Yields, meta_columns};
 ghost use Rattle.sound_tables.specs.Versions.{number_of};
 
 use crate::fault::TableFault;
@@ -42,7 +42,7 @@ pub(crate) fn read_records<S: Alter>(
 }
 
 fn records_in(rows: Option<Vec<Meta>>, version: Version) -> Result<u64, TableFault>
-    ensures judged { (db : Database) → Tells ShowsMeta meta_columns (db.trees 0) rows
+    ensures judged { (db : Database) → Yields ShowsMeta meta_columns (db.trees 0) rows
         → MatchResult result (HasRecords (number_of version) db) (IsRefusedMeta version (AreSoundAt version) db) }
     ensures told { IfErr result (λ why. (error : Error) → why ≢ TableFault.Failed error) }
 {

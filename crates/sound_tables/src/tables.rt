@@ -4,7 +4,7 @@ ghost use Rattle.spool_sql.specs.Tables.{IsOwn, relay_schema};
 ghost use Rattle.sound_tables.specs.Reading.{Reads};
 ghost use Rattle.sound_tables.specs.Shown.{ShowsMeta, ShowsEndpoint, ShowsSecret, ShowsDelivery, ShowsAttempt};
 ghost use Rattle.sound_tables.specs.Shown.{ShowsTopic};
-ghost use Rattle.sound_tables.specs.Tables.{Tells, meta_columns, endpoint_columns, secret_columns};
+ghost use Rattle.sound_tables.specs.Tables.{Yields, meta_columns, endpoint_columns, secret_columns};
 ghost use Rattle.sound_tables.specs.Tables.{delivery_columns, attempt_columns, topic_columns};
 
 use crate::meta::Meta;
@@ -20,7 +20,7 @@ pub(crate) fn read_meta<S: Alter>(
     conn: &mut Connection<S>,
     alloc: Global,
 ) -> Result<Option<Vec<Meta>>, Error>
-    ensures { Reads S.Store IsOwn (λ db. Tells ShowsMeta meta_columns (db.trees 0)) conn.old conn.new result }
+    ensures { Reads S.Store IsOwn (λ db. Yields ShowsMeta meta_columns (db.trees 0)) conn.old conn.new result }
 {
     read_table(
         conn,
@@ -34,7 +34,7 @@ pub(crate) fn read_endpoints<S: Alter>(
     conn: &mut Connection<S>,
     alloc: Global,
 ) -> Result<Option<Vec<Endpoint>>, Error>
-    ensures { Reads S.Store IsOwn (λ db. Tells ShowsEndpoint endpoint_columns (db.trees 1)) conn.old conn.new result }
+    ensures { Reads S.Store IsOwn (λ db. Yields ShowsEndpoint endpoint_columns (db.trees 1)) conn.old conn.new result }
 {
     read_table(
         conn,
@@ -48,7 +48,7 @@ pub(crate) fn read_secrets<S: Alter>(
     conn: &mut Connection<S>,
     alloc: Global,
 ) -> Result<Option<Vec<Secret>>, Error>
-    ensures { Reads S.Store IsOwn (λ db. Tells ShowsSecret secret_columns (db.trees 3)) conn.old conn.new result }
+    ensures { Reads S.Store IsOwn (λ db. Yields ShowsSecret secret_columns (db.trees 3)) conn.old conn.new result }
 {
     read_table(
         conn,
@@ -62,7 +62,7 @@ pub(crate) fn read_deliveries<S: Alter>(
     conn: &mut Connection<S>,
     alloc: Global,
 ) -> Result<Option<Vec<Delivery>>, Error>
-    ensures { Reads S.Store IsOwn (λ db. Tells ShowsDelivery delivery_columns (db.trees 5)) conn.old conn.new result }
+    ensures { Reads S.Store IsOwn (λ db. Yields ShowsDelivery delivery_columns (db.trees 5)) conn.old conn.new result }
 {
     read_table(
         conn,
@@ -76,7 +76,7 @@ pub(crate) fn read_attempts<S: Alter>(
     conn: &mut Connection<S>,
     alloc: Global,
 ) -> Result<Option<Vec<Attempt>>, Error>
-    ensures { Reads S.Store IsOwn (λ db. Tells ShowsAttempt attempt_columns (db.trees 7)) conn.old conn.new result }
+    ensures { Reads S.Store IsOwn (λ db. Yields ShowsAttempt attempt_columns (db.trees 7)) conn.old conn.new result }
 {
     read_table(
         conn,
@@ -90,7 +90,7 @@ pub(crate) fn read_topics<S: Alter>(
     conn: &mut Connection<S>,
     alloc: Global,
 ) -> Result<Option<Vec<Topic>>, Error>
-    ensures { Reads S.Store (λ schema. schema ≡ relay_schema) (λ db. Tells ShowsTopic topic_columns (db.trees 9))
+    ensures { Reads S.Store (λ schema. schema ≡ relay_schema) (λ db. Yields ShowsTopic topic_columns (db.trees 9))
         conn.old conn.new result }
 {
     read_table(

@@ -22,7 +22,7 @@ use Rattle.spool.specs.Vaults.{HoldsAt}
 use Rattle.spool.specs.Books.{KeepsOpen}
 use Rattle.spool_write.specs.Entering.{EntersWhole}
 use Rattle.spool.specs.Writing.{AsksForLook, Commits, CommitsAll, HasCause, IsCause, LeavesAsBefore}
-use Rattle.spool.specs.Writing.{StaysAs, Rests, RestsInDoubt, WriteEndsAs, IsUnwritten, Tells}
+use Rattle.spool.specs.Writing.{StaysAs, Rests, RestsInDoubt, WriteEndsAs, IsUnwritten, ReportsWrite}
 use Rattle.spool.specs.declared.transaction.WriteEnd.{WriteEnd}
 use Rattle.spool.specs.declared.transaction.WriteEnd.TheVariants.{Committed, Illegal, OutOfMemory, Doubtful}
 
@@ -81,7 +81,7 @@ leaves_all a b next entries records s clean at settled db may = elim (s.crash cl
 ]
 
 -- a transaction whose end isn't known wasn't seen to be committed
-not_seen : (mid new : State) (tried : Result Bool Error) (error : Error) → Tells mid new tried (Doubtful error)
+not_seen : (mid new : State) (tried : Result Bool Error) (error : Error) → ReportsWrite mid new tried (Doubtful error)
     → tried ≡ Ok true → ⊥
 not_seen mid new tried error (inl (failed, other, same)) made = absurd (let e = sym failed ∙ made in cc)
 not_seen mid new tried error (inr (asks, fails)) made = absurd (let e = subst AsksForLook made asks in cc)
@@ -103,7 +103,7 @@ pub ends_told : (old mid new : State) (next : ℕ) (entries : List Record) (trie
     → IfOk tried (Commits old mid next entries)
     → ((tried ≡ Ok true → ⊥) → IsTrue mid.is_open → StaysAs old mid) → Survives old mid (CommitsAll old next entries)
     → Survives mid new (λ _. ⊥) → HasCleanDisk new
-    → Tells mid new tried told → (told ≡ Committed → StaysAs mid new) → (IsUnwritten told → IsUnchanged mid new)
+    → ReportsWrite mid new tried told → (told ≡ Committed → StaysAs mid new) → (IsUnwritten told → IsUnchanged mid new)
     → KeepsOpen mid new → IsSettled old → IsSettled new → WriteEndsAs old new next entries told
 ends_told old mid new next entries tried Committed turns undone first later clean told made same looked was_settled
     settled = λ records at.
@@ -145,7 +145,7 @@ module _ {P : Trees → Type 0} (a m b : State) (early : Survives a m P) (late :
   caused_until error same (inr before) = inr (λ db may. before db (leaves_before m b late clean db may))
 
   pub caused : (tried : Result Bool Error) (told : WriteEnd) → (HasCleanDisk m → IfErr tried (IsCause a m))
-      → Tells m b tried told → HasCause a b told
+      → ReportsWrite m b tried told → HasCause a b told
   caused tried Committed cause is = tt
   caused tried Illegal cause is = tt
   caused tried OutOfMemory cause is = tt

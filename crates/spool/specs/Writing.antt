@@ -85,10 +85,10 @@ AsksForLook (Err error) = cause error ≡ Memory
 
 -- What is told of a transaction with this answer. A doubt has the transaction's own error, and the store told no other
 -- since, or that of the look at the store after it, where the store failed.
-abbrev pub Tells : State → State → Result Bool Error → WriteEnd → Type 0
-Tells old new tried Committed = tried ≡ Ok true
-Tells old new tried Illegal = tried ≡ Ok false
-Tells old new tried OutOfMemory = (error : Error) × (tried ≡ Err error) × (cause error ≡ Memory)
-Tells old new tried (Doubtful error) =
+abbrev pub ReportsWrite : State → State → Result Bool Error → WriteEnd → Type 0
+ReportsWrite old new tried Committed = tried ≡ Ok true
+ReportsWrite old new tried Illegal = tried ≡ Ok false
+ReportsWrite old new tried OutOfMemory = (error : Error) × (tried ≡ Err error) × (cause error ≡ Memory)
+ReportsWrite old new tried (Doubtful error) =
     ((tried ≡ Err error) × (¬ (cause error ≡ Memory)) × (new.blamed ≡ old.blamed))
     ⊎ (AsksForLook tried × (HasCleanDisk new → Fails old new ⊥ error))

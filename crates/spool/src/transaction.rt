@@ -7,7 +7,7 @@ ghost use Rattle.relay_types.specs.Records.{records_of};
 ghost use Rattle.spool_sql.specs.Steps.{IfClean, SurvivesAs};
 ghost use Rattle.spool.specs.Books.{KeepsOpen};
 ghost use Rattle.spool.specs.Writing.{Commits, CommitsAll, HasCause, IsCause, StaysAs, WriteEndsAs, IsUnwritten};
-ghost use Rattle.spool.specs.Writing.{Tells};
+ghost use Rattle.spool.specs.Writing.{ReportsWrite};
 
 use relay_types::Step;
 use spool_sql::{Cause, cause_of, probe};
@@ -68,7 +68,7 @@ fn commit_steps<S: Alter>(
 // What is told of a transaction, after a look at the store where nothing was written.
 fn end_of<S: Alter>(conn: &mut Connection<S>, tried: Result<bool, Error>) -> WriteEnd
     requires { conn.old.in_transaction ≡ false }
-    ensures told { Tells (state S.Store conn.old) (state S.Store conn.new) tried result }
+    ensures told { ReportsWrite (state S.Store conn.old) (state S.Store conn.new) tried result }
     ensures committed { result ≡ WriteEnd.Committed → conn.new ≡ conn.old }
     ensures same { IfClean S.Store conn.old conn.new (λ a b. IsUnwritten result → IsUnchanged a b) }
     ensures stays { IfClean S.Store conn.old conn.new KeepsOpen }

@@ -1,5 +1,0 @@
-use Rattle.drill.proofs.BesideCommitLaws as laws
-use Rattle.drill.proofs.theorems.runs_keep_marks_in_order.Goals as goal
-
-pub returns : goal.returns
-returns c = laws.runs_keep_marks
