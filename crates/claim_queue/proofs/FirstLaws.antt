@@ -98,7 +98,3 @@ pub stays : (pairs : List Pair) (old : Option Pair) (other : Pair)
     → list_any (same_pair other) pairs ≡ ((list_any (same_pair other) pairs && not (is_the old other))
     || is_the old other)
 stays pairs old other held = grind arith
-
-pub is_held_one : (pairs : List Pair) (pair other : Pair) → list_any (same_pair pair) pairs ≡ true
-    → same_pair other pair ≡ true → list_any (same_pair other) pairs ≡ true
-is_held_one pairs pair other held same = subst (λ p. list_any (same_pair p) pairs ≡ true) (is_same other pair same) held

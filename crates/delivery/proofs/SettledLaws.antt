@@ -222,10 +222,6 @@ begun is_base start desk prefix has_settled base is =
     ∙ append_assoc base prefix (records_of desk.waiting.waiting) in
     (was.0, was.1, was.2, was.3, all)
 
-pub only_settled : (is_base : List Record → Type 0) (start : ℕ) (desk : DeskValue) (prefix staged : List Record)
-    → HasRecords is_base start desk prefix staged → HasSettled is_base start desk prefix
-only_settled is_base start desk prefix staged has base is = let was = has base is in (was.0, was.1, was.2, was.3)
-
 module _ (is_base : List Record → Type 0) (start : ℕ) (old new : DeskValue) (prefix staged : List Record)
     (has : HasRecords is_base start old prefix staged) where
   stays_on : ((w : World) → StandsFor old w → (next : World) × Stays w next × StandsFor new next)

@@ -2,7 +2,7 @@
 use Rattle.std.proofs.Common.{◌≡◌, ◌≤◌, ◌<◌, ℕ, Bool, true, false, List, [], ◌∷◌, cond, refl, ap, subst, arith, nat_eq}
 use Rattle.std.proofs.lemmas.Bool.Decides.{nat_tests}
 use Rattle.std.proofs.lemmas.List.Sums.{sum_by-cons}
-use Rattle.std.specs.Prelude.{Option, Some, None, ◌&&◌, ◌==◌, count_by, find, nat_lt, option_map, option_and_then}
+use Rattle.std.specs.Prelude.{Option, Some, None, ◌&&◌, count_by, nat_lt, option_map, option_and_then}
 use Rattle.std.specs.Prelude.{bytes_eq, if◌then◌else◌}
 use Rattle.delivery_book.specs.declared.entry.Entry.{Entry}
 use Rattle.delivery_book.specs.Entries.{HasOneEach, entry_at, is_kept, kept_at, latest_row, row_in}

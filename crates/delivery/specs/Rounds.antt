@@ -5,7 +5,7 @@ use Rattle.desk.specs.Claims.{PostValue}
 use Rattle.delivery.specs.declared.worker.Claimed.{Claimed}
 use Rattle.delivery.specs.declared.worker.Claimed.TheVariants as claimed
 use Rattle.delivery.specs.declared.worker.Round.{Round}
-use Rattle.delivery.specs.declared.worker.Round.TheVariants.{Posted, Idle, Halted, Closing, NoMemory, WentBack}
+use Rattle.delivery.specs.declared.worker.Round.TheVariants.{Posted, WentBack}
 use Rattle.webhook_request.specs.Requests.{Request}
 use Rattle.webhook_request.specs.Requests as webhook
 

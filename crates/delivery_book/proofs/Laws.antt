@@ -22,7 +22,7 @@ use Rattle.relay_types.specs.Legal.{IsLegal}
 use Rattle.relay_types.specs.Steps.{accepts}
 use Rattle.delivery_book.specs.declared.entry.Entry.{Entry}
 use Rattle.delivery_book.specs.declared.entry.Unsettled.{Unsettled}
-use Rattle.delivery_book.specs.Entries.{BookValue, empty_book, events_from, is_done_before, is_left, is_open, marked}
+use Rattle.delivery_book.specs.Entries.{BookValue, events_from, is_done_before, is_left, is_open, marked}
 use Rattle.delivery_book.specs.Entries.{new_entry, with_event, with_events}
 use Rattle.delivery_book.specs.Entries.{with_outcome, with_attempt, at_delivery, at_outcomes, with_latest_settled}
 use Rattle.delivery_book.specs.Entries.{with_settled, with_purge, front_below, rest_from, takes_outcome, entry_at}
@@ -145,18 +145,6 @@ stands_quiet book later records settled r quiet idle h entries unsettled next se
     (cons_option (entry_by (λ d. same_attempts records r quiet d i) (attempts_of (take settled records))
     (λ d. purged_by-same records r d (idle d) i) (length records, r)) []))))
     unsettled next settled_seq
-
-pub stands_empty : StandsFor empty_book [] 0
-stands_empty = record {
-  entries = refl;
-  unsettled = refl;
-  next_seq = omega arith;
-  settled_seq = refl;
-  within =
-      omega arith;
-  once = λ d. omega arith;
-  in_order = λ d l. refl;
-}
 
 pub stands_accept : (book : BookValue) (records : List Record) (settled seq : ℕ) (name id body : List ℕ) (at : ℕ)
     → StandsFor book records settled → seq ≡ length records

@@ -51,12 +51,6 @@ kept_left seq e is = pick e.taken_by is
     pick None kept = refl
     pick (Some p) kept = absurd (true≢false (sym kept))
 
--- what no Purge took before the next one, none took below a number up to that one's
-pub first_left : (first : Option ℕ) (seq : ℕ) (e : Entry) → option_map_or (leb seq) first true ≡ true
-    → is_not_before first e ≡ true → is_left seq e ≡ true
-first_left None seq e h is = kept_left seq e is
-first_left (Some p) seq e h is = left_before seq p e (leb-true seq p h) is
-
 kept_not_before : (first : Option ℕ) (e : Entry) → is_kept e ≡ true → is_not_before first e ≡ true
 kept_not_before None e is = is
 kept_not_before (Some p) e is = kept_left p e is

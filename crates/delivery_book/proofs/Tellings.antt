@@ -1,13 +1,13 @@
 -- What a book tells of the histories for which it stands.
 use Rattle.std.proofs.Common.{◌≡◌, ℕ, ◌<◌, ◌≤◌, Bool, true, false, ◌&&◌, not, cond, List, [], ◌∷◌, Option, Some, None}
 use Rattle.std.proofs.Common.{take, refl, sym, ◌∙◌, ap, arith}
-use Rattle.std.specs.Prelude.{filter, filter_map, find, count_by, option_map, is_some, bytes_eq, if◌then◌else◌}
+use Rattle.std.specs.Prelude.{filter, filter_map, find, count_by, option_map, is_some, bytes_eq}
 use Rattle.std.proofs.lemmas.Bool.{and_parts, not-true}
 use Rattle.std.specs.Option.{option_map_or}
 use Rattle.relay_types.specs.declared.record.Record.{Record}
 use Rattle.relay_types.specs.declared.state.State.{State}
 use Rattle.relay_types.specs.Records.{Accepted, numbered}
-use Rattle.relay_types.specs.Deliveries.{accept_at, accepted, is_accept_as, is_purged, known_as, deliveries}
+use Rattle.relay_types.specs.Deliveries.{accepted, is_accept_as, is_purged, known_as, deliveries}
 use Rattle.relay_types.specs.Deliveries.{deliveries_of, attempts_of, purged_by}
 use Rattle.relay_types.proofs.LookupLaws.{filter_both}
 use Rattle.delivery_book.specs.declared.entry.Entry.{Entry}
@@ -17,11 +17,10 @@ use Rattle.delivery_book.specs.declared.row.Counts.{Counts}
 use Rattle.relay_types.specs.declared.state.State.TheVariants.{Pending, Delivered, Exhausted}
 use Rattle.delivery_book.specs.Fields.{in_state, is_counted, settled_among, settled_counts}
 use Rattle.delivery_book.proofs.Entries.{is_below}
-use Rattle.delivery_book.specs.Book.{StandsFor, entry_for, entry_by, row_of, body_of, body_left, count_in}
+use Rattle.delivery_book.specs.Book.{StandsFor, entry_for, entry_by, row_of, body_left, count_in}
 use Rattle.delivery_book.proofs.Histories.{all_entries, known_as-entries, known_as-settled, entry_at-entries}
 use Rattle.delivery_book.proofs.Histories.{kept_at-entries, left_at, row_of-made}
 use Rattle.delivery_book.proofs.Histories.{accepted-take, accepted-past, entries-below, counts_settled, counts_pending}
-use Rattle.delivery_book.proofs.Purges.{taken_first}
 
 pub stands_known : (book : BookValue) (records : List Record) (settled : ℕ) (name id : List ℕ)
     → StandsFor book records settled → known_in book name id ≡ known_as records name id
@@ -151,15 +150,3 @@ known_unpurged records name id d h = by (find (λ e. is_accept_as name id e.1 &&
         ap (is_purged records) (sym (same x.0 e))
         ∙ not-true (is_purged records x.0) (and_parts (is_accept_as name id x.1) (not (is_purged records x.0))
         (found_one (λ e. is_accept_as name id e.1 && not (is_purged records e.0)) (numbered records) x found)).1
-
-pub body_unpurged : (records : List Record) (s d : ℕ) → is_purged records d ≡ false
-    → body_left records s d ≡ body_of records d
-body_unpurged records s d h = λ i. option_map (λ (a : Accepted). a.body)
-    (if (first ∙ sym h) i then None else accept_at records d)
-  where
-    by : (b : Bool) → (b ≡ true → is_purged records d ≡ true) → b ≡ false
-    by false sooner = refl
-    by true sooner = absurd (let no : false ≡ true = sym h ∙ sooner refl in cc)
-
-    first : is_purged (take s records) d ≡ false
-    first = by (is_purged (take s records) d) (taken_first records s d)

@@ -750,11 +750,6 @@ pub is_full : {d : DeskValue} {w : World} (free : ℕ) → StandsFor d w
 is_full {d} free h e = full_where free (requests_in d.waiting.waiting) e
     ∙ ap (λ steps. nat_le MAX_WAITING_REQUESTS (requests_in steps)) h.waiting.steps
 
--- no place for another pair
-place_lacks : (named : Bool) (free n : ℕ) → free + n ≡ MAX_SUBSCRIPTIONS
-    → (not named && nat_eq free 0) ≡ not (named || nat_lt n MAX_SUBSCRIPTIONS)
-place_lacks named free n e = grind (arith, nat_tests)
-
 pub is_spent : {d : DeskValue} {w : World} (numbers : ℕ) → StandsFor d w
     → numbers ≡ record_count d.waiting + length d.live → nat_le MAX_RECORDS numbers ≡ are_seqs_spent w
 is_spent {d} {w} numbers h e =

@@ -27,7 +27,7 @@ use Rattle.drill.specs.declared.calls.Core.{Core}
 use Rattle.drill.specs.declared.held.Held.{Held}
 use Rattle.drill.specs.declared.held.Held.TheVariants as held
 use Rattle.drill.specs.Tickets.{KeepsTickets}
-use Rattle.drill.specs.Moves.{Session, Answer, MayReply, moves, stays, tells, seal_reply, settles, unseals, halts}
+use Rattle.drill.specs.Moves.{Session, Answer, MayReply, moves, tells, seal_reply, settles, unseals, halts}
 use Rattle.drill.specs.Moves.{unsealed_reply}
 use Rattle.drill.specs.Cores.{IsHeld, AreOnePerDelivery, CoreStandsFor, CoreAnswers, HoldsAll, HoldsOut, IsCore}
 use Rattle.drill.specs.Cores.{HandsOver, RefusesHandOver, receipt_of, given_of}
@@ -270,21 +270,6 @@ answers_taken_back old new batch from to was first last moved mark live out perm
         ended old new s next on (moved s.world on.desk).1 refl refl permits tickets same,
       );
 }
-
--- what is held stays, if the call was for something else
-pub answers_idle : {L : Type 0} (old new : Core L) (answer : Session → Answer) (reply : Reply)
-    → ((s : Session) → IsHeld old.desk.waiting.mark s.world old.held → answer s ≡ stays s reply)
-    → new ≡ old → CoreAnswers old answer reply new
-answers_idle {L} old new answer reply says same = subst (CoreAnswers old answer reply) (sym same)
-    (record {
-      mark = refl;
-      moves = λ s on. (
-        s,
-        subst (λ a. MayReply a reply s) (sym (says s on.held)) (inl (refl, refl)),
-        on,
-      );
-      keeps = λ same. same;
-    })
 
 -- What is held is what is out
 

@@ -25,8 +25,8 @@ use Rattle.desk.specs.Claims.{with_attempt_over, without_row}
 use Rattle.desk.specs.Faults.{Faults, refusal}
 use Rattle.desk.specs.Queries.{endpoint_page, event_page}
 use Rattle.desk.specs.Moves as desk
-use Rattle.desk.specs.Moves.{are_seqs_spent, change, change_faults, changes, is_nothing_out, lacking, moment}
-use Rattle.desk.specs.Moves.{new_publish_faults, new_submit_faults, opened, publish, publish_faults, publish_to}
+use Rattle.desk.specs.Moves.{are_seqs_spent, change, change_faults, is_nothing_out, lacking, moment}
+use Rattle.desk.specs.Moves.{new_publish_faults, new_submit_faults, publish, publish_faults, publish_to}
 use Rattle.desk.specs.Moves.{refused, repeats, seal, submit, submit_faults, submit_new, unless}
 use Rattle.desk.specs.World.{World, Out, Batch, Receipt, Doubt, all_records, settled_records, sealed_records}
 use Rattle.drill.specs.declared.events.Event.{Event}

@@ -6,7 +6,7 @@ use Rattle.std.proofs.Common.{sym, ap, subst, ◌∙◌, arith, append-nil, nat_
 use mathlib.Core.Logic.{∥∥₁_map}
 use Rattle.std.specs.Prelude.{IsSomeAnd, count_by, filter, find, map, nat_le, position, remove, reverse, slice_get}
 use Rattle.std.specs.Prelude.{if◌then◌else◌}
-use Rattle.std.specs.List.{list_any, position_or_len}
+use Rattle.std.specs.List.{position_or_len}
 use Rattle.std.specs.Option.{option_map_or}
 use Rattle.std.proofs.lemmas.Bool.{and_parts, cases_lt, eqb-true, leb-true, ltb-false, not-true}
 use Rattle.std.proofs.lemmas.List.{length-map, take-append-le, take_all}
@@ -46,7 +46,7 @@ use Rattle.desk.specs.Moves.{publish_faults, publish_to, new_publish_faults, lac
 use Rattle.desk.specs.Moves.{at_moment, or_out_of_memory, tickets_in, with_accepts}
 use Rattle.desk.specs.Claims.{JobValue, SpentValue, is_live, is_claimable, is_claimable_for, claimables}
 use Rattle.desk.specs.Claims.{has_no_waiting_outcome, waits, choice, claim, claim_chosen, starts, rests, with_attempt}
-use Rattle.desk.specs.Claims.{has_row, with_attempt_over, without_row, outcome_by, sample_by}
+use Rattle.desk.specs.Claims.{with_attempt_over, without_row, outcome_by, sample_by}
 use Rattle.group_commit.specs.Waits.{batch_out}
 use Rattle.desk.specs.Desks.{StandsFor, IsMove, KeepsOut, Spends}
 use Rattle.desk.proofs.LeastLaws.{chosen_among, passes}
@@ -683,14 +683,6 @@ taken_first delivery place row rows rest t = by (position (same_row row) rows) r
         e ∙ ap (λ n. Some n) (⊎_elim (λ lt. absurd (early i lt found))
         (λ most. ⊎_elim (λ lt. absurd (late lt)) (λ least. omega (arith, most, least)) (cases_lt place i))
         (cases_lt i place))
-
--- it is that of an attempt that is under way
-pub taken_is_out : {L : Type 0} (core : Core L) (s : Session) (delivery place : ℕ) (row : Row) (rest : List Row)
-    → CoreStandsFor core s → IsTaken delivery place row core.permits.items rest → has_row s.world row ≡ true
-taken_is_out core s delivery place row rest on t =
-    subst (λ rows. list_any (same_row row) rows ≡ true) on.permits
-    (list_any_at (same_row row) core.permits.items place row (taken_within delivery place row core.permits.items rest t)
-    (ap (same_row row) (sym t.own) ∙ same_row_self row))
 
 one_each_after_a_spend : (rows : List Row) (place : ℕ) (d : Row) → place < length rows → AreOnePerDelivery rows
     → AreOnePerDelivery (remove rows place)

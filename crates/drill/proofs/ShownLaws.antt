@@ -357,10 +357,6 @@ is_ordered g core vault s on = record {
       on.stands.desk.waiting.sealed_within;
 }
 
-pub no_events : {L S : Type 0} (g : Ghosts S) (core : Core L) (vault : VaultValue S)
-    → AnswersEvents g core vault [] [] core vault
-no_events g core vault s on = (s, 0, (refl, refl), on, omega arith)
-
 pub events_more : {L S : Type 0} (g : Ghosts S) (first mid new : Core L) (before between later : VaultValue S)
     (events : List Event) (replies : List Reply) (event : Event) (told : Reply)
     → AnswersEvents g first before events replies mid between → AnswersEvent g mid between event told new later

@@ -29,7 +29,7 @@ use Rattle.desk.specs.declared.ticket.Told.TheVariants as desk_told
 use Rattle.desk.specs.Claims.{JobValue, SpentValue, claim, limits, spent_by, with_attempt_over}
 use Rattle.desk.specs.Queries.{EndpointShown, told, told_command, event_page, endpoint_page}
 use Rattle.desk.specs.Moves as desk
-use Rattle.desk.specs.World.{World, Out, Nothing, Batch, Receipt, Doubt, settled_records, sealed_records}
+use Rattle.desk.specs.World.{World, Out, Batch, Receipt, Doubt, settled_records, sealed_records}
 use Rattle.drill.specs.declared.tickets.AnyTicket.{AnyTicket}
 use Rattle.drill.specs.declared.tickets.AnyTicket.TheVariants.{Submission, Command}
 use Rattle.drill.specs.Tickets.{seq_of, find_ticket}

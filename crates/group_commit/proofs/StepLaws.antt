@@ -149,14 +149,6 @@ counts_first x xs = (
       (records_of xs),
 )
 
--- a request isn't an outcome
-pub request_alone : (step : List Record) → IsTrue (is_request step) → is_outcome step ≡ false
-request_alone step h = by (is_outcome step) refl
-  where
-    by : (b : Bool) → is_outcome step ≡ b → b ≡ false
-    by false is = refl
-    by true is = absurd (omega (arith, (outcome_counts step is).1, (request_counts step h).1))
-
 pub placed_more : (steps : History) (step : List Record) → AllByRecursion IsPlaced steps → IsPlaced step
     → AllByRecursion IsPlaced (steps ++ step ∷ [])
 placed_more [] step h is = (is, tt)

@@ -1,8 +1,8 @@
 -- What a request asks for has no fragment.
-use Rattle.std.proofs.Common.{◌≡◌, ℕ, ◌==◌, Bool, true, false, not, [], ◌∷◌, IsTrue, refl, subst, arith, take, length}
+use Rattle.std.proofs.Common.{◌≡◌, ℕ, ◌==◌, Bool, true, false, [], ◌∷◌, IsTrue, refl, subst, arith}
 use Rattle.std.proofs.lemmas.Bool.{and_parts, eqb-true}
 use Rattle.std.proofs.lemmas.Bool.Decides.{nat_tests}
-use Rattle.std.specs.List.{list_all, prefix_len}
+use Rattle.std.specs.List.{list_all}
 use Rattle.http_uri.specs.Grammar.{without_fragment}
 use Rattle.relay_types.specs.Values.{Text, is_path_character, is_request_target}
 

@@ -19,7 +19,7 @@ use Rattle.desk.specs.Queries.{has_event, is_event_of, settled_body}
 use Rattle.desk.specs.Moves.{ticket}
 use Rattle.desk.specs.World.{settled_records}
 use Rattle.delivery.specs.Logs.{ChangeValue, PublishedValue, HasChange, HasSettled, HasTickets, tickets_by}
-use Rattle.intake_shed.specs.Acks.{AckValue, PublishAckValue, AreLogged, AreSettled, HasEvent, IsLogged, ack_of}
+use Rattle.intake_shed.specs.Acks.{PublishAckValue, AreLogged, AreSettled, HasEvent, IsLogged, ack_of}
 use Rattle.intake_shed.specs.Acks.{publish_ack_of}
 
 equal : (xs ys : List ℕ) → bytes_eq xs ys ≡ true → xs ≡ ys
@@ -88,12 +88,6 @@ event_longer base prefix written seq name id body begins event =
     append_assoc base prefix begins.0 ∙ ap (λ w. base ++ w) begins.1 in
     let there = accepted_longer (base ++ prefix) begins.0 seq event.0 event.1 in
     (event.0, subst (λ records. accept_at records seq ≡ Some event.0) all there, event.2, event.3, event.4)
-
--- it is in the log, of which this was a prefix
-pub logged_on : (is_base : List Record → Type 0) (ack : AckValue) (written : List Record)
-    → IsPrefix ack.prefix written → IsLogged is_base ack ack.prefix → IsLogged is_base ack written
-logged_on is_base ack written begins stands base is =
-    event_longer base ack.prefix written ack.seq ack.name ack.id ack.body begins (stands base is)
 
 -- each ticket of an event for a topic has its id
 

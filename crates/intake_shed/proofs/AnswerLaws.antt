@@ -1,14 +1,12 @@
 -- The answer to what is asked for is that to the request.
-use Rattle.std.proofs.Common.{◌≡◌, ◌<◌, ℕ, Ok, Err, IsTrue, ◌⊎◌, inl, inr, refl, subst}
+use Rattle.std.proofs.Common.{◌≡◌, ◌<◌, ℕ, Ok, Err, IsTrue, ◌⊎◌, inl, inr, subst}
 use Rattle.std.specs.Prelude.{Option, Some, Result, IfOk, IfErr}
 use Rattle.relay_types.specs.Values.{Text}
-use Rattle.desk.specs.declared.command.Command.{Command}
 use Rattle.delivery.specs.Logs.{ChangeValue}
 use Rattle.intake_shed.specs.Acks.{AckValue, PublishAckValue, AreBelow, IsOfEvent, IsOfPublish}
-use Rattle.intake_shed.specs.Answers.{Answers, AcceptsEvent, AcceptsPublish, FailsBy, GivesPageAt, IsNoRefusal}
+use Rattle.intake_shed.specs.Answers.{Answers, AcceptsEvent, AcceptsPublish, FailsBy}
 use Rattle.intake_shed.specs.Answers.{IsPublishReply, IsEventReply}
-use Rattle.intake_shed.specs.Answers.{OrOutOfMemory, may_fail, may_fail_event, may_fail_publish}
-use Rattle.intake_shed.specs.Pages.{asks_for_page}
+use Rattle.intake_shed.specs.Answers.{OrOutOfMemory, may_fail_event, may_fail_publish}
 use Rattle.intake_shed.specs.Replies.{ask_reply, out_of_memory}
 use Rattle.intake_shed.specs.Requests.{IsReadAs, IsRefusedWith}
 use Rattle.intake_shed.specs.declared.ask.Asked.{Asked}
@@ -17,22 +15,6 @@ use Rattle.intake_shed.specs.declared.fault.RequestError.{RequestError}
 use Rattle.intake_shed.specs.declared.refusals.SubmitError.{SubmitError}
 use Rattle.intake_shed.specs.declared.refusals.SubmitError.TheVariants as submit
 use Rattle.intake_shed.specs.declared.reply.Reply.{Reply}
-
--- an event and a change may both go back, and be unknown
-pub event_may_fail : (why : SubmitError) → IsNoRefusal why → IsTrue (may_fail_event why)
-event_may_fail (submit.Refused refusal) h = absurd h
-event_may_fail submit.Unknown h = refl
-event_may_fail submit.WentBack h = refl
-
-pub publish_may_fail : (why : SubmitError) → IsNoRefusal why → IsTrue (may_fail_publish why)
-publish_may_fail (submit.Refused refusal) h = absurd h
-publish_may_fail submit.Unknown h = refl
-publish_may_fail submit.WentBack h = refl
-
-pub change_may_fail : (command : Command) (why : SubmitError) → IsNoRefusal why → IsTrue (may_fail command why)
-change_may_fail command (submit.Refused refusal) h = absurd h
-change_may_fail command submit.Unknown h = refl
-change_may_fail command submit.WentBack h = refl
 
 -- an event that was waited for is acknowledged, or isn't
 pub event_answers : (name id body : Text) (seen : ℕ) (waited : Result AckValue SubmitError) (reply : Reply)
@@ -52,18 +34,6 @@ pub publish_answers : (topic id body : Text) (seen : ℕ) (waited : Result Publi
     → AcceptsPublish topic id body seen reply published ⊎ FailsBy may_fail_publish reply
 publish_answers topic id body seen (Ok ack) reply published event below may told is = inl (ack, is, event, below, told)
 publish_answers topic id body seen (Err why) reply published event below may told is = inr (why, may, told)
-
--- a page that is asked for
-pub page_answers : (what : Asked) (seen : ℕ) (reply : Reply) (given : Option AckValue)
-    (published : Option PublishAckValue)
-    (confirmed : Option ChangeValue) → IsTrue (asks_for_page what) → GivesPageAt what seen reply
-    → Answers what seen reply given published confirmed
-page_answers (asked.Change command) seen reply given published confirmed asks page = cc
-page_answers (asked.Post name id body) seen reply given published confirmed asks page = cc
-page_answers (asked.Publish topic id body) seen reply given published confirmed asks page = cc
-page_answers asked.Totals seen reply given published confirmed asks page = page
-page_answers (asked.Endpoint name) seen reply given published confirmed asks page = page
-page_answers (asked.Event name id) seen reply given published confirmed asks page = page
 
 abbrev was_read : Asked → Result Asked Reply
 was_read what = Ok what

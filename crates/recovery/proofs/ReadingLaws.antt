@@ -1,12 +1,12 @@
 -- Desk and vault of what a store holds stand for its opening.
-use Rattle.std.proofs.Common.{◌≡◌, false, List, length, take, inl, refl, sym, ap, subst}
+use Rattle.std.proofs.Common.{◌≡◌, false, inl, refl, sym, subst}
 use Rattle.std.proofs.Math.Seq.{take-length}
 use Rattle.sqlite.specs.Store.{Ghosts}
 use Rattle.relay_types.specs.Records.{History, records_of}
 use Rattle.spool.specs.declared.load.Books.{Books}
 use Rattle.spool.specs.Books.{AreBooksOf, StillHolds}
 use Rattle.spool.specs.Commits.{HoldsOnDisk}
-use Rattle.spool.specs.Vaults.{VaultValue, Holds}
+use Rattle.spool.specs.Vaults.{VaultValue}
 use Rattle.desk.specs.Desks.{DeskValue, StandsFor, Opens}
 use Rattle.desk.specs.Moves.{opened}
 use Rattle.recovery.specs.Left.{VaultStandsFor}

@@ -195,8 +195,3 @@ of_migrating a b Damaged none = none
 of_migrating a b (Store error) (inl refusal) = inl (was_refusal a b error refusal)
 of_migrating a b (Store error) (inr before) = inr before
 of_migrating a b OutOfMemory h = tt
-
--- what is so of each refusal
-pub each_refusal : {A E : Type 0} (P : E → Type 0) (r : Result A E) → ((e : E) → P e) → IfErr r P
-each_refusal P (Ok x) each = tt
-each_refusal P (Err e) each = each e

@@ -7,7 +7,7 @@ use Rattle.spool_sql.specs.Steps.{IfClean}
 use Rattle.spool_sql.specs.Tables.{no_schema}
 use Rattle.spool.specs.Opening.{has_ours, IsBack, LeavesAt}
 use Rattle.spool.specs.declared.faults.OpenFault.{OpenFault}
-use Rattle.spool.specs.declared.faults.OpenFault.TheVariants.{NotOurs, NewerVersion, OldVersion, Damaged, Store}
+use Rattle.spool.specs.declared.faults.OpenFault.TheVariants.{NotOurs, Store}
 use Rattle.spool.specs.declared.faults.OpenFault.TheVariants.{OutOfMemory}
 
 -- The store is new, and has no table, no index and no view.

@@ -26,7 +26,7 @@ use Rattle.spool_sql.specs.Causes.{cause}
 use Rattle.spool_sql.specs.declared.cause.Cause.TheVariants as of
 use Rattle.spool.specs.Adopting.{fault_of}
 use Rattle.spool.specs.declared.faults.OpenFault.{OpenFault}
-use Rattle.spool.specs.declared.faults.OpenFault.TheVariants.{NotOurs, NewerVersion, OldVersion, Damaged, Store}
+use Rattle.spool.specs.declared.faults.OpenFault.TheVariants.{NotOurs, Store}
 use Rattle.spool.specs.declared.faults.OpenFault.TheVariants.{OutOfMemory}
 
 -- the path can't be looked at or opened, or memory was refused

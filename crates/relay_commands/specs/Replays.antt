@@ -2,7 +2,7 @@
 use Rattle.std.specs.Prelude.{ℕ, List, Option, Result, Ok, Err}
 use Rattle.drill.specs.Replays.{Replays}
 use Rattle.command_interface.specs.declared.exit_status.CommandFault.{CommandFault}
-use Rattle.command_interface.specs.declared.exit_status.CommandFault.TheVariants.{Argument, Ended, File, Store}
+use Rattle.command_interface.specs.declared.exit_status.CommandFault.TheVariants.{Ended}
 use Rattle.command_interface.specs.Reports.{Reports}
 
 -- what is written at an end; there are no arguments and no file

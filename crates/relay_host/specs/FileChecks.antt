@@ -1,5 +1,4 @@
 -- What an error of a look at a path means.
-use Rattle.std.specs.Prelude.{◌≡◌}
 use Rattle.std.specs.declared.io.ErrorKind.{ErrorKind}
 use Rattle.std.specs.declared.io.ErrorKind.TheVariants.{NotFound, NotADirectory, FilesystemLoop, OutOfMemory}
 use Rattle.relay_host.specs.declared.place.FileCheck.{FileCheck}

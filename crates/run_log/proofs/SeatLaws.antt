@@ -1,14 +1,13 @@
 -- Each step keeps the rule.
 use Rattle.relay_types.specs.declared.record.Record.{Record}
-use Rattle.std.proofs.Common.{◌≡◌, ◌≢◌, ◌⊎◌, ℕ, zero, suc, ◌+◌, List, [], ◌∷◌, ◌++◌, length, set, Bool, true, false}
-use Rattle.std.proofs.Common.{true≢false, refl, sym, ap, ◌∙◌, subst, ⊎_elim, arith}
+use Rattle.std.proofs.Common.{◌≡◌, ◌≢◌, ◌⊎◌, ℕ, zero, suc, ◌+◌, List, [], ◌∷◌, ◌++◌, set, true, false}
+use Rattle.std.proofs.Common.{true≢false, refl, sym, ap, ◌∙◌, subst, ⊎_elim}
 use mathlib.Core.Option.{some, some-ne-none, some-injective}
 use mathlib.Core.List.{IsPrefix}
 use lib.ListN.{get_elem?}
-use Rattle.atomic_table.specs.Table.{State, Step, Me, Act, keeps, Allows, Splits, Joins, opening}
+use Rattle.atomic_table.specs.Table.{Step, Me, keeps, Allows, Splits, Joins}
 use Rattle.atomic_table.proofs.Lists.{at_set, at_snoc, set_again}
 use Rattle.run_log.specs.declared.View.{View}
-use Rattle.run_log.specs.Prefixes.{Agree}
 use Rattle.run_log.specs.Seats.{writing, reading, with_other, IsView, HasOneWriter, KeepsRule, Appends, Compares}
 use Rattle.run_log.proofs.PrefixLaws.{prefix_self, prefix_nil, prefix_more, prefix_either}
 

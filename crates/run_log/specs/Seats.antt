@@ -1,7 +1,7 @@
 -- What the seats at the log know, their rule, and what each step does.
 use Rattle.relay_types.specs.declared.record.Record.{Record}
-use Rattle.std.specs.Prelude.{◌≡◌, ℕ, Bool, true, false, List, [], ◌++◌}
-use mathlib.Core.Option.{Option, some, none}
+use Rattle.std.specs.Prelude.{◌≡◌, ℕ, true, false, List, [], ◌++◌}
+use mathlib.Core.Option.{some}
 use mathlib.Core.List.{IsPrefix}
 use lib.ListN.{get_elem?}
 use Rattle.atomic_table.specs.Seated.{TableId}

@@ -143,10 +143,6 @@ pub ok_then : {X E : Type 0} (r : Result X E) (P Q : X → Type 0) → IfOk r P 
 ok_then (Ok x) P Q h f = f x h
 ok_then (Err e) P Q h f = tt
 
-pub ok_always : {X E : Type 0} (r : Result X E) {P : Type 0} → P → OnOk r P
-ok_always (Ok x) p = p
-ok_always (Err e) p = tt
-
 pub on_ok : {X E : Type 0} (r : Result X E) (P Q : Type 0) → OnOk r P → (P → Q) → OnOk r Q
 on_ok (Ok x) P Q h f = f h
 on_ok (Err e) P Q h f = tt

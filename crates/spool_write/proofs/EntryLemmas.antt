@@ -322,13 +322,6 @@ outcome_made a b c next delivery attempt status at put inside same found within 
 
 -- ---- one record after another
 
-pub enters_none : (s : State) (next : ℕ) → IsTrue s.in_transaction → IsTrue s.is_open → Enters s s next [] true
-enters_none s next inside is_open = record {
-  on = record { was_open = is_open; is_open = is_open; now_is = refl; committed_is = refl; mode = inside };
-  judges = λ count records at has. sym (ap is_legal (append-nil records) ∙ has.legal);
-  makes = λ _ count records at has. subst (HasRows s.now count) (sym (append-nil records)) has;
-}
-
 behind : (next : ℕ) (records some : List Record) (place : ℕ) → place ≡ next + length some → next ≡ length records
     → place ≡ length (records ++ some)
 behind next records some place is at = omega (arith, is, at, length-append records some)

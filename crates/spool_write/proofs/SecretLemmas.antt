@@ -1,6 +1,6 @@
 -- The rows of an endpoint's secrets, written one after another.
 use Rattle.std.proofs.Common.{◌≡◌, ◌<◌, ℕ, zero, suc, ◌+◌, true, List, [], ◌∷◌, ◌++◌, map, length, take, Some, None}
-use Rattle.std.proofs.Common.{IsTrue, refl, sym, ap, subst, ◌∙◌, arith, add-zero, add-one, append-nil}
+use Rattle.std.proofs.Common.{IsTrue, refl, sym, ap, subst, ◌∙◌, arith, add-zero, add-one}
 use Rattle.std.proofs.Common.{append_assoc}
 use Rattle.std.specs.Prelude.{slice_get}
 use Rattle.std.specs.List.{enumerate_from, list_all}
@@ -12,12 +12,6 @@ use Rattle.spool_sql.specs.Steps.{Alters}
 use Rattle.spool_sql.proofs.StepLemmas.{alters_then}
 use Rattle.relay_types.proofs.KnownLaws.{and_first, and_second, and_both}
 use Rattle.spool_write.specs.Entering.{with_secrets}
-
-pub alters_none : (s : State) (put : ℕ) → IsTrue s.in_transaction → IsTrue s.is_open → Alters s s (with_secrets put [])
-alters_none s put inside is_open = record {
-  on = record { was_open = is_open; is_open = is_open; now_is = refl; committed_is = refl; mode = inside };
-  makes = λ rows t. subst (λ all. IsTables s.now (record rows { secrets = all })) (sym (append-nil rows.secrets)) t;
-}
 
 abbrev row_at : ℕ → ℕ × List ℕ → SecretRow
 row_at put s = record { endpoint = put; place = s.0; secret = s.1 }

@@ -156,10 +156,6 @@ kept before after old is h = at after (subst (λ o. Keeps o after) is h)
     at None h = absurd h
     at (Some new) h = ap Some h
 
-pub keeps_same : (known : Option (List ℕ)) → Keeps known known
-keeps_same None = tt
-keeps_same (Some xs) = refl
-
 -- ---- how far a text is answered
 
 -- These lines are read and this is written for them. `Holds lines written` is what lasts from line to line.

@@ -15,7 +15,6 @@ use Rattle.std.proofs.lemmas.List.Quantifiers.{position-Some}
 use Rattle.std.proofs.lemmas.Slice.{between_is}
 use Rattle.text_lines.specs.Streams.{LinesValue, left, has_no_feed, BeginsTooLong, IsTooLong, IsFeedAt, TakesPiece}
 use Rattle.text_lines.specs.Streams.{PassesBound}
-use Rattle.text_lines.specs.declared.limits.TheConstants.{MAX_LINES}
 
 abbrev is_feed : ℕ → Bool
 is_feed c = c == 10
@@ -91,28 +90,6 @@ BeginsTooLong-from_piece (Some bytes) reading (Some xs) taken clean (piece, rest
 not_empty : (line : List ℕ) (c : ℕ) (rest : List ℕ) → line ++ c ∷ rest ≢ []
 not_empty [] c rest e = cc
 not_empty (d ∷ line) c rest e = cc
-
--- a line that was taken, and is one too many
-pub IsTooLong-from_line : (count : ℕ) (old new : Option (List ℕ)) (line : List ℕ) → MAX_LINES ≤ count
-    → Consumes old new line → line ≢ [] → IsTooLong count old
-IsTooLong-from_line count None new line many taken some = inl (many, tt)
-IsTooLong-from_line count (Some bytes) None line many taken some = absurd taken
-IsTooLong-from_line count (Some bytes) (Some xs) [] many taken some = absurd (some refl)
-IsTooLong-from_line count (Some bytes) (Some xs) (c ∷ line) many taken some = inl
-    (many, λ none. not_empty [] c (line ++ xs) (sym taken ∙ none))
-
--- the same where it ends with the piece
-pub IsTooLong-from_piece : (count : ℕ) (old : Option (List ℕ)) (reading next : LinesValue) (remaining : Option (List ℕ))
-    → MAX_LINES ≤ count → Consumes old (left reading remaining) reading.line → TakesPiece reading next
-    → IsTooLong count old
-IsTooLong-from_piece count None reading next remaining many taken piece = inl (many, tt)
-IsTooLong-from_piece count (Some bytes) reading next None many taken piece = absurd taken
-IsTooLong-from_piece count (Some bytes) reading next (Some xs) many taken (piece, is, grown, clean) =
-    let whole : bytes ≡ (reading.line ++ piece) ++ 10 ∷ (next.pending ++ xs) =
-    taken ∙ ap (λ ys. reading.line ++ (ys ++ xs)) is ∙ ap (λ ys. reading.line ++ ys)
-    (append_assoc piece (10 ∷ next.pending) xs) ∙ sym (append_assoc reading.line piece (10 ∷ (next.pending ++ xs)))
-    in
-    inl (many, λ none. not_empty (reading.line ++ piece) 10 (next.pending ++ xs) (sym whole ∙ none))
 
 -- where a line is too long, or one too many, something is left
 pub IsTooLong-none : (count : ℕ) → IsTooLong count (Some []) → ⊥

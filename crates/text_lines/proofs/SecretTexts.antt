@@ -1,12 +1,12 @@
 -- Which texts are those of secrets.
-use Rattle.std.proofs.Common.{◌≡◌, ℕ, zero, suc, ◌+◌, ◌≤◌, ◌<◌, Bool, true, false, List, [], ◌∷◌, length, get_or}
-use Rattle.std.proofs.Common.{IsTrue, refl, subst, arith, le-leb, leb-true}
+use Rattle.std.proofs.Common.{◌≡◌, ℕ, suc, ◌≤◌, ◌<◌, Bool, true, false, List, [], ◌∷◌, length}
+use Rattle.std.proofs.Common.{refl, subst, arith, le-leb, leb-true}
 use Rattle.std.specs.Prelude.{MatchBool, nat_le, ◌&&◌}
 use Rattle.std.specs.List.{AllWithin, HoldsAt}
 use Rattle.std.proofs.lemmas.Bool.{and_parts}
 use Rattle.relay_types.specs.SecretText.{ReadsSecret}
 use Rattle.text_lines.specs.Parts.{HasParts}
-use Rattle.text_lines.specs.Words.{ReadSecrets, AreSecretTexts, IsSecretsWord}
+use Rattle.text_lines.specs.Words.{ReadSecrets, IsSecretsWord}
 use Rattle.text_lines.proofs.PartLaws.{parts_equal}
 use Rattle.text_lines.proofs.SecretWords.{ReadSecrets-at, length-ReadSecrets, parts_of_secrets}
 

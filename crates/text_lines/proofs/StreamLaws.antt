@@ -2,7 +2,7 @@
 use Rattle.std.proofs.Common.{◌≡◌, ℕ, ◌-◌, subst, List, [], ◌++◌, length, take, drop, Option, Some, None, Result, Ok}
 use Rattle.std.proofs.Common.{Err, IfSome, OnOk, OnErr, refl, sym, ap, ◌∙◌, append_assoc, append-nil, take-append-drop}
 use Rattle.std.proofs.lemmas.List.{take_rest}
-use Rattle.std.specs.Io.KnownBytes.{Appends, Keeps}
+use Rattle.std.specs.Io.KnownBytes.{Appends}
 use Rattle.std.proofs.KnownBytes.{Appends-nil, Appends-trans}
 use Rattle.text_lines.specs.Streams.{AppendsBefore, AppendsFront, with_feed}
 
@@ -34,17 +34,6 @@ AppendsBefore-more old mid new bytes rest n (front, e, grown) more =
       Appends-trans old mid new front (take n rest) grown more,
     )
 
--- what grew by nothing is kept, and the other way round
-pub Keeps-from_nil : (old new : Option (List ℕ)) → Appends old new [] → Keeps old new
-Keeps-from_nil None new h = tt
-Keeps-from_nil (Some xs) None h = h
-Keeps-from_nil (Some xs) (Some ys) h = h ∙ append-nil xs
-
-pub Appends-from_kept : (old new : Option (List ℕ)) → Keeps old new → Appends old new []
-Appends-from_kept None new h = tt
-Appends-from_kept (Some xs) None h = h
-Appends-from_kept (Some xs) (Some ys) h = h ∙ sym (append-nil xs)
-
 -- what known bytes became
 pub Appends-known : (old new : Option (List ℕ)) (had more : List ℕ) → old ≡ Some had → Appends old new more
     → new ≡ Some (had ++ more)
@@ -53,9 +42,6 @@ Appends-known old new had more is h = at new (subst (λ known. Appends known new
     at : (known : Option (List ℕ)) → Appends (Some had) known more → known ≡ Some (had ++ more)
     at None k = absurd k
     at (Some xs) k = ap Some k
-
-pub Keeps-known : (old new : Option (List ℕ)) (had : List ℕ) → old ≡ Some had → Keeps old new → new ≡ Some (had ++ [])
-Keeps-known old new had is h = Appends-known old new had [] is (Appends-from_kept old new h)
 
 -- all bytes are written, or a front of them
 pub AppendsFront-from_end : {T E : Type 0} (r : Result T E) (old new : Option (List ℕ)) (bytes : List ℕ)

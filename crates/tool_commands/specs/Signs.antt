@@ -6,11 +6,11 @@ use Rattle.relay_types.specs.Values.{is_msg_id, is_moment}
 use Rattle.relay_types.specs.declared.limits.TheConstants.{MAX_BODY_BYTES}
 use Rattle.relay_types.specs.declared.fault.ReadFault.{ReadFault}
 use Rattle.relay_types.specs.declared.fault.ReadFault.TheVariants.{BadId, BadMoment, BadSecret}
-use Rattle.text_lines.specs.declared.fault.StreamFault.TheVariants.{BadLine, TooLong, Read, Write, Lost, OutOfMemory}
+use Rattle.text_lines.specs.declared.fault.StreamFault.TheVariants.{TooLong, Read, Write, OutOfMemory}
 use Rattle.text_lines.specs.Words.{AreSecretTexts}
 use Rattle.text_lines.specs.Streams.{AppendsFront, with_feed}
 use Rattle.command_interface.specs.declared.exit_status.CommandFault.{CommandFault}
-use Rattle.command_interface.specs.declared.exit_status.CommandFault.TheVariants.{Argument, Ended, File, Store}
+use Rattle.command_interface.specs.declared.exit_status.CommandFault.TheVariants.{Argument, Ended}
 use Rattle.tool_commands.specs.declared.sign_command.SignWords.{SignWords}
 use Rattle.command_interface.specs.Reports.{Reports}
 

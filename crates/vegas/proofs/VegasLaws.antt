@@ -4,7 +4,6 @@ use Rattle.std.proofs.Common.{◌++◌, Option, Some, None, nat_le, nat_lt, ◌=
 use Rattle.std.proofs.Common.{sym, ◌∙◌, ap, arith, length-append, inl, inr, subst}
 use Rattle.std.specs.Prelude.{slice_get, ◌⊎◌, ◌≢◌}
 use Rattle.std.specs.Option.{option_map_or}
-use Rattle.std.proofs.Math.Dec.{leb}
 use Rattle.std.proofs.Math.Seq.{drop-append_seam}
 use Rattle.std.proofs.lemmas.Bool.Decides.{nat_tests}
 use Rattle.std.proofs.lemmas.List.{take-append-le, drop-append-le, length-drop}

@@ -1,4 +1,4 @@
-use Rattle.std.proofs.Common.{◌≡◌, rules}
+use Rattle.std.proofs.Common.{rules}
 use Rattle.hyper_poster.proofs.request.http_request.Goals as goal
 
 pub returns : goal.returns

@@ -1,4 +1,4 @@
-use Rattle.std.proofs.Common.{◌≡◌, ◌∙◌, rules}
+use Rattle.std.proofs.Common.{◌∙◌}
 use Rattle.hyper_poster.proofs.Targets.{target_whole}
 use Rattle.hyper_poster.proofs.request.uri_of.Goals as goal
 

@@ -1,4 +1,4 @@
-use Rattle.std.proofs.Common.{refl, sym, ap, ◌∙◌}
+use Rattle.std.proofs.Common.{sym, ap, ◌∙◌}
 use Rattle.drill.specs.Cores.{given_of}
 use Rattle.drill.specs.declared.held.Held.TheVariants as held
 use Rattle.drill.proofs.BatchLaws.{answers_halted, answers_not_halted, holds_receipt}
