@@ -2,7 +2,7 @@
 # Everything that `make test` runs: the merge gate, and then the tests beside it.
 #
 # First the merge gate `rt ci` with a table of its times; then, side by side, the tests that need the program that it built, or the compiler's
-# refusals. The last line counts them all: 'N passed, M failed'. Usage: scripts/gate test
+# refusals. At the end stand the merge gate's time, what failed, and the counts of all: 'N passed, M failed'. Usage: scripts/gate test
 set -uo pipefail
 cd "$(dirname "$0")/../../.."
 
@@ -91,6 +91,7 @@ for ((step = 0; step < steps; step++)); do
   count "$log" "$(cat "$log.words")" "$(cat "$log.status")"
 done
 
+grep -E '^(\| all |The (gate|host|longest chain) took )' "$logs/gate"
 cat "$told"
 echo "$passed passed, $failed failed"
 [ "$failed" -eq 0 ]
