@@ -50,6 +50,7 @@ impl<L: Ledger, S: Alter> Player<L, S> {
             },
             other => (other, Err(LineFault::Lost)),
         };
+        // An assignment would drop the old state, and a runner can't be dropped.
         match mem::replace(&mut self.state, state) {
             State::Between => told,
             _other => unreachable!(),

@@ -1,4 +1,4 @@
--- When there is no permit, and the numbers and names of the refusals, in the order in which their faults are looked for.
+-- When there is no permit, and the numbers and names of the refusals, in the order of their checks.
 use Rattle.std.specs.Prelude.{◌≡◌, ℕ, ◌<◌, ◌≤◌, List, length, codes, IsTrue}
 use Rattle.permits.specs.declared.pool.TheConstants.{MAX_PERMITS}
 use Rattle.permits.specs.declared.refusal.Refused.{Refused}

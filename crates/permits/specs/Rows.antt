@@ -1,4 +1,4 @@
--- What the rows of the permits that are out say: how many an endpoint has, which delivery is out, and which row comes next.
+-- What the rows of the permits that are out say: how many an endpoint has, which delivery is out, which row is next.
 use Rattle.std.specs.Prelude.{ℕ, ◌+◌, Bool, ◌&&◌, nat_eq, List, count_by, bytes_eq}
 use Rattle.std.specs.List.{list_any}
 use Rattle.permits.specs.declared.row.Row.{Row}

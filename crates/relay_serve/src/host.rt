@@ -7,9 +7,9 @@ use std::sync::Wait;
 use std::thread::Threads;
 use std::time::Clock;
 
-/// What a relay runs on: locks, threads, clocks, sockets, random numbers, memory and standard error. Whatever has all of
-/// these is one. Each function names the types of its sockets: were they named here, the check would have no proof of a
-/// program's `main` that calls `serve`.
+/// What a relay runs on: locks, threads, clocks, sockets, random numbers, memory and standard error. Whatever has all
+/// of these is one. Each function names the types of its sockets: were they named here, the check would have no proof
+/// of a program's `main` that calls `serve`.
 pub trait Host: Wait
     + Threads
     + Clock

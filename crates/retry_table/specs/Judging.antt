@@ -32,7 +32,7 @@ round_trip_of (TimedOut rtt) = rtt
 round_trip_of Unreached = 0
 round_trip_of Unsent = 0
 
--- what a spend tells of the endpoint's speed: the round trip, and whether the post was dropped; nothing where it is ignored
+-- what a spend tells of the endpoint's speed: the round trip, and whether the post was dropped; nothing if ignored
 abbrev pub measure_as : Spend → ℕ → Option Measured
 measure_as Success rtt = Some (record { rtt = rtt; dropped = false })
 measure_as Dropped rtt = Some (record { rtt = rtt; dropped = true })

@@ -35,7 +35,7 @@ use Rattle.spool.specs.Vaults.{HoldsAt}
 use Rattle.spool.specs.Writing.{IsCause}
 use Rattle.spool.specs.Books.{KeepsOpen}
 use Rattle.spool.specs.Migrating.{AreMigrated, AreSoundIfFirst, AreSoundRows, HaveRows, IsFirstUnadopted}
-use Rattle.spool.specs.Migrating.{IsFirstUnmigrated, IsMigratedTo, IsUnmade, IsUnmadeFor, IsUnmigrated, KeepsRows}
+use Rattle.spool.specs.Migrating.{IsFirstUnmigrated, IsMigratedTo, IsUnmade, IsUnmadeFor, IsUnmigrated, MigratesRows}
 use Rattle.spool.specs.Migrating.{LeavesMigrated, MayCommit, MayMigrate, Migrated, has_topics}
 use Rattle.spool.specs.Opening.{TellsFault}
 use Rattle.spool.specs.declared.faults.OpenFault.{OpenFault}
@@ -185,7 +185,7 @@ module _ (a m b : State) (same : IsUnchanged a m) (early : Survives a m (λ _. �
   left_before : (db : Trees) → m.may_leave db → a.may_leave db
   left_before db was = elim (early.crash clean db was) [ inl first ↦ first | inr none ↦ absurd none ]
 
-  kept_since : (db : Trees) → KeepsRows m db → KeepsRows a db
+  kept_since : (db : Trees) → MigratesRows m db → MigratesRows a db
   kept_since db it = record {
     whole = subst (λ (d : Database). IsTrue (has_first_tables d.schema)) same.0.now_is it.whole;
     free = free_since it.free;

@@ -63,7 +63,7 @@ AreSoundIfFirst old db =
 
 -- The tables of version 2 on the disk have all rows that tables of version 1 had, and these were sound. The five tables
 -- of version 1 were there, and none of topics. So a database without these is never changed.
-pub record KeepsRows (old : State) (db : Trees) : Type 0 where
+pub record MigratesRows (old : State) (db : Trees) : Type 0 where
   pub whole : IsTrue (has_first_tables old.now.schema)
   pub free : has_topics old.now.schema ≡ false
   pub kept : Migrated old db
@@ -73,7 +73,7 @@ pub record KeepsRows (old : State) (db : Trees) : Type 0 where
 -- or the rows of version 1 in version 2.
 pub record MayMigrate (old new : State) : Type 0 where
   pub stays : KeepsOpen old new
-  pub leaves : (db : Trees) → new.may_leave db → old.may_leave db ⊎ KeepsRows old db
+  pub leaves : (db : Trees) → new.may_leave db → old.may_leave db ⊎ MigratesRows old db
 
 -- What each refusal leaves. Tables that were refused were only read.
 abbrev pub LeavesMigrated : State → State → OpenFault → Type 0
