@@ -1,15 +1,16 @@
 """SIGKILL again and again under load: what was acknowledged is there, and is delivered.
 
 16 submitters, subscribers of which some fail, a purge five times a second, and SIGKILL at a random
-moment. After each kill `relayd check` opens the file, and the relay is started again on it. In the
-end every event that was answered 202 was delivered under its own webhook-id with its bytes and a
-signature that verifies, and nothing was posted under an id that nobody gave. It is in the file
-under its number with its bytes, unless a purge named a later moment than that of its last post. No
-purge took an event that was pending: what was after a kill is in the file, or was posted since.
-Events are published too: one that was answered 202 was posted to each subscriber, under the number
-that the answer names for it, and any other one to each subscriber or to none. One id is submitted
-after each purge, each time with other bytes: it is refused, or a new event. At last everything is
-purged. Runs may go on side by side.
+moment. After each kill `relayd check` opens the file, and the relay is started again on it. Purges
+begin after half of the kills, at most ten: until then every event that was answered 202 is in the
+file after each kill, under its number with its bytes. In the end each was delivered under its own
+webhook-id with its bytes and a signature that verifies, and nothing was posted under an id that
+nobody gave. It is in the file under its number with its bytes, unless a purge named a later moment
+than that of its last post. No purge took an event that was pending: what was after a kill is in the
+file, or was posted since. Events are published too: one that was answered 202 was posted to each
+subscriber, under the number that the answer names for it, and any other one to each subscriber or
+to none. One id is submitted after each purge, each time with other bytes: it is refused, or a new
+event. At last everything is purged. Runs may go on side by side.
 Usage: scripts/serve kill RELAYD [KILLS [SEED]]: 20 kills if left out
 """
 import collections
@@ -34,13 +35,15 @@ FAILURES = (500, 503, b"", b"abc", b"HTTP/1.1 2")
 AGAIN = ("c", "again")
 # Seconds between purges, and how many seconds before them an event has ended that they take.
 PAUSE, AGE = 0.2, 1
+# So many kills at most come before the first purge.
+UNPURGED = 10
 
 
 class Load:
     """Submitters and one who purges, who go on over kills, and what they were answered. An event at an endpoint is its name, id and bytes."""
 
-    def __init__(self, pause=PAUSE, rest=0.0):
-        self.pause, self.rest = pause, rest
+    def __init__(self, pause=PAUSE, rest=0.0, may_purge=True):
+        self.pause, self.rest, self.may_purge = pause, rest, may_purge
         self.sent, self.published = set(), []
         # The number of each event that was acknowledged.
         self.acknowledged = {}
@@ -78,6 +81,8 @@ class Load:
 
     def purge(self, address, draw, at, number):
         time.sleep(self.pause)
+        if not self.may_purge:
+            return
         with self.lock:
             self.purged_before = max(self.purged_before, int(time.time()) - AGE)
         answer = purge(address, self.purged_before)
@@ -151,11 +156,14 @@ class Kills:
         self.load.address = None
         with self.load.lock:
             known = len(self.load.acknowledged) + self.load.purges
+            acknowledged = dict(self.load.acknowledged)
         self.relay.kill()
         status, told, fault = ran(self.relayd, "check", self.file)
         self.counts.check("the file is opened", (status, fault), (0, ""))
         self.counts.check("it holds what was acknowledged", int(told.split()[2]) >= known + len(NAMES))
         kept, ended = rows(self.file), {seq for (seq,) in reading(self.file, "SELECT delivery FROM attempts WHERE status BETWEEN 200 AND 299")}
+        if not self.load.may_purge:
+            self.counts.check("events that are not kept under their number", [it[:2] for it, number in acknowledged.items() if kept.get(it) != number], [])
         now = time.time()
         self.pending |= {it: now for it, number in kept.items() if number not in ended}
         self.relay = Relay(self.relayd, self.file, *self.options)
@@ -182,8 +190,10 @@ def main():
     print(f"seed {seed}")
     draw, counts = random.Random(seed), Counts()
     with tempfile.TemporaryDirectory() as folder:
-        run = Kills(counts, relayd, folder, Load())
-        for _ in range(kills):
+        load = Load(may_purge=False)
+        run = Kills(counts, relayd, folder, load)
+        for number in range(kills):
+            load.may_purge = number >= min(kills // 2, UNPURGED)
             time.sleep(draw.uniform(0.05, 1.5))
             run.kill()
         run.conclude()
