@@ -6,7 +6,7 @@ nothing, or an empty file, a store is made, which Python's SQLite then reads. Th
 random histories with topics and purges, in each of which a cell was changed: the conditions of the
 page, which Python looks at, decide. Beside these what is said of a file that another program has
 open, and the copies of `packaging/backup`. Then the same of `driver open`, which opens a file by one
-call. Last, `relayd serve` migrates a store.
+call. `relayd serve` migrates a store, too.
 Usage: scripts/store files RELAYD DRIVER
 """
 import contextlib
