@@ -1,7 +1,7 @@
 """The verifiers of docs/SUBSCRIBERS.md, in each language that this machine has.
 
 Each is tried on the post that the page shows, on one of two signatures, and on posts of which one
-thing is changed, which it has to refuse. A language that isn't here (Debian: nodejs, golang-go,
+thing is changed or missing, which it has to refuse without a fault. A language that isn't here (Debian: nodejs, golang-go,
 openssl) is named and not counted.
 Usage: scripts/docs subscribers
 """
@@ -30,10 +30,12 @@ CASES = [
     ({**GENUINE, "timestamp": "1001"}, False),
     ({**GENUINE, "signature": OTHER}, False),
     ({**GENUINE, "secret": "whsec_" + "A" * 32}, False),
+    ({**GENUINE, "signature": "v1," + "\u00e9" * 44}, False),
+    *(({name: it for name, it in GENUINE.items() if name != missing}, False) for missing in ("id", "timestamp", "signature")),
 ]
-PYTHON = "\nimport json, sys\nc = json.load(sys.stdin)\nh = {'webhook-' + k: c[k] for k in ('id', 'timestamp', 'signature')}\n" \
+PYTHON = "\nimport json, sys\nc = json.load(sys.stdin)\nh = {'webhook-' + k: c[k] for k in ('id', 'timestamp', 'signature') if k in c}\n" \
     "print('genuine' if verifies(c['secret'], h, c['body'].encode()) else 'not genuine')\n"
-NODE = "\nconst c = JSON.parse(require('node:fs').readFileSync(0));\nconst h = Object.fromEntries(['id', 'timestamp', 'signature'].map((k) => " \
+NODE = "\nconst c = JSON.parse(require('node:fs').readFileSync(0));\nconst h = Object.fromEntries(['id', 'timestamp', 'signature'].filter((k) => k in c).map((k) => " \
     "['webhook-' + k, c[k]]));\nconsole.log(verifies(c.secret, h, Buffer.from(c.body)) ? 'genuine' : 'not genuine');\n"
 GO = 'package main\n\nimport (\n\t"crypto/hmac"\n\t"crypto/sha256"\n\t"encoding/base64"\n\t"encoding/json"\n\t"fmt"\n\t"net/http"\n\t"os"\n\t"strings"\n)\n\n'
 GO_MAIN = '\nfunc main() {\n\tvar c map[string]string\n\tjson.NewDecoder(os.Stdin).Decode(&c)\n\th := http.Header{}\n\tfor _, k := range []string{"id", ' \
@@ -62,7 +64,7 @@ def go_program(folder):
 
 def judge(words, case, folder):
     (folder / "body").write_text(case["body"])
-    names = {it.upper(): case[it] for it in ("id", "timestamp", "signature", "secret")}
+    names = {it.upper(): case.get(it, "") for it in ("id", "timestamp", "signature", "secret")}
     how = {"cwd": folder, "input": json.dumps(case), "capture_output": True, "text": True, "env": {**os.environ, **names}}
     told = subprocess.run(words, timeout=SECONDS, **how)
     return told.stdout.strip() or told.stderr.strip()
