@@ -10,6 +10,10 @@ HasNumber rows name number =
     (text : List ℕ) × (one_of name rows ≡ Some text) × IsNumeral 10 (without_leading_plus text)
     × (number ≡ digits_value 10 (without_leading_plus text))
 
+-- there is no argument of this name that is a number of 64 bits
+abbrev pub LacksNumber : List Row → List ℕ → Type 0
+LacksNumber rows name = (number : ℕ) → number < 2 ^ 64 → ¬ HasNumber rows name number
+
 -- the arguments, whose rows these are, ask for this
 abbrev pub AskFor : List Row → ServeWords → Type 0
 AskFor rows asked =

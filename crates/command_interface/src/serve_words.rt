@@ -1,7 +1,7 @@
 //! The words of `relayd serve`.
 ghost use Rattle.std.specs.Prelude.{◌≡◌, None, IfSome};
 ghost use Rattle.clap.specs.Words.{found_of, rows_of};
-ghost use Rattle.command_interface.specs.Asked.{AskFor, AskForNothing};
+ghost use Rattle.command_interface.specs.Asked.{AskFor, AskForNothing, HasNumber, LacksNumber};
 
 use clap::builder::ValueParser;
 use clap::{Arg, ArgAction, ArgMatches, Command};
@@ -42,16 +42,30 @@ pub fn read_serve<'a>(words: &ArgMatches<'a>) -> Option<ServeWords<'a>>
     ensures asked { IfSome result (AskFor (rows_of (found_of words.now))) }
     ensures none { result ≡ None → AskForNothing (rows_of (found_of words.now)) }
 {
+    let file = words.get_str("file")?;
+    let address = words.get_str("address")?;
+    let workers = number_in(words, "workers")?;
+    let intake = number_in(words, "intake")?;
+    let timeout = number_in(words, "timeout")?;
+    let requests = number_in(words, "requests")?;
     Some(ServeWords {
-        file: words.get_str("file")?,
-        address: words.get_str("address")?,
+        file,
+        address,
         settings: Settings {
-            workers: words.get_one("workers")?,
-            intake: words.get_one("intake")?,
-            timeout: words.get_one("timeout")?,
-            requests: words.get_one("requests")?,
+            workers,
+            intake,
+            timeout,
+            requests,
         },
     })
+}
+
+// The number under this name.
+fn number_in(words: &ArgMatches<'_>, name: &str) -> Option<u64>
+    ensures found { IfSome result (HasNumber (rows_of (found_of words.now)) name.now) }
+    ensures missing { result ≡ None → LacksNumber (rows_of (found_of words.now)) name.now }
+{
+    words.get_one(name)
 }
 
 /// The words that `serve` takes, and its help.
