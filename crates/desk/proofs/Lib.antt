@@ -13,5 +13,6 @@ mod RequestTies
 mod PurgeTies
 mod PublishTies
 mod PublishLaws
+mod SpendWorlds
 mod SpendLaws
 mod ComparingLaws

@@ -1,5 +1,5 @@
 use Rattle.desk.proofs.Words.{◌∙◌, sym, subst, slice_set, Limiter, AreSampled}
-use Rattle.desk.proofs.SpendLaws.{sampled_at, has_place, with_estimator}
+use Rattle.desk.proofs.SpendWorlds.{sampled_at, has_place, with_estimator}
 use Rattle.desk.proofs.limiter.sample.Goals as goal
 
 pub returns-in-Some-place_of : goal.returns-in-Some-place_of
