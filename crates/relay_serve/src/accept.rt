@@ -7,11 +7,12 @@ use intake_shed::LatestAck;
 use run_log::LogId;
 use std::alloc::AllocGlobal;
 use std::hash::RandomState;
-use std::net::{Net, SocketAddr, TcpListener, TcpStream};
+use std::io::Read;
+use std::net::{Net, Shutdown, SocketAddr, TcpListener, TcpStream};
 use std::random::RandomSource;
 use std::sync::ledger::Ledger;
 use std::sync::{Arc, Mutex, Wait};
-use std::time::{Clock, Duration};
+use std::time::{Clock, Duration, Instant};
 use std::{io, thread};
 use tokio::runtime::LocalRuntime;
 
@@ -20,6 +21,12 @@ const HEAD_SECONDS: u64 = 10;
 
 /// A request is answered so many seconds after the connection, or the connection is closed.
 const REQUEST_SECONDS: u64 = 30;
+
+/// What a client still sends after its answer is read for so many seconds at most.
+const DRAIN_SECONDS: u64 = 5;
+
+/// How many bytes are read at once then.
+const DRAINED: usize = 4096;
 
 const PAUSE_MILLIS: u64 = 10;
 
@@ -84,6 +91,8 @@ where
     L: Ledger,
     I: LogId,
 {
+    // (without a descriptor for this the request is served all the same)
+    let sent = socket.try_clone().ok();
     let socket = tokio::net::TcpStream::from_std(socket, runtime.handle().reactor())?;
     let shared = Arc::try_clone(&relay.shared)?;
     let latest = Arc::try_clone(latest)?;
@@ -91,24 +100,49 @@ where
     let connection = http.serve_connection(socket, Intake::new(*rt, shared, latest, answered));
     let limit = Duration::from_secs(REQUEST_SECONDS);
     let timed = runtime.handle().time().timeout(rt, limit, connection)?;
-    let _ended = runtime.block_on(rt, timed)?;
-    Ok(())
+    let ended = runtime.block_on(rt, timed)?;
+    match sent {
+        Some(sent) if ended.is_ok() => drain(rt, &sent),
+        _ => Ok(()),
+    }
+}
+
+// Reads what a client still sends, once it is answered. If the socket were closed before that, the
+// client's system would report a reset, perhaps in place of the answer (RFC 9112, section 9.6).
+fn drain<R: Wait + Clock>(rt: &R, mut socket: &TcpStream) -> io::Result<()> {
+    let mut bytes = [0; DRAINED];
+    if socket.peek(&mut bytes)? == 0 {
+        return Ok(());
+    }
+    socket.shutdown(Shutdown::Write)?;
+    socket.set_nonblocking(false)?;
+    socket.set_read_timeout(Some(Duration::from_secs(1)))?;
+    let began = Instant::now(rt)?;
+    let limit = Duration::from_secs(DRAIN_SECONDS);
+    for _ in rt.forever() {
+        if socket.read(&mut bytes)? == 0 || began.elapsed(rt)? >= limit {
+            return Ok(());
+        }
+    }
+    unreachable!()
 }
 
 /// Makes the threads that wait for a connection look whether the end was asked for, until all of
-/// them have ended. If the system has no socket for that, it tries again after a moment.
+/// them have ended. If the system has no socket for that, it tries again after a moment. A
+/// connection takes a second if too many wait, so none is made once all have ended.
 pub(crate) fn wake<L: Ledger, I: LogId, R: Wait + Clock + Net>(
     rt: &R,
     bound: SocketAddr,
     relay: &Relay<L, I>,
 ) {
     for _ in rt.forever() {
-        let running = relay.running();
-        if running == 0 {
-            return;
+        for _ in 0..relay.running() {
+            if relay.running() > 0 {
+                drop(TcpStream::connect_timeout(rt, &bound, Duration::from_secs(1)));
+            }
         }
-        for _ in 0..running {
-            drop(TcpStream::connect_timeout(rt, &bound, Duration::from_secs(1)));
+        if relay.running() == 0 {
+            return;
         }
         thread::sleep(rt, Duration::from_millis(PAUSE_MILLIS));
     }

@@ -24,8 +24,8 @@ from lib.command import Counts, program_of
 from lib.openings import check_slow_opening
 from lib.process import NOBODY, descriptors_of, seconds_of
 from lib.retention import check_exhausted_purged, check_large_purge, check_no_number_left, check_purges
-from lib.serving import SECRET, STARTED, Answer, Relay, Subscriber, ask, check_answer, connect, exchange, put, read_all, request, submit
-from lib.serving import wait_until
+from lib.serving import SECRET, STARTED, Answer, Relay, Subscriber, ask, check_answer, connect, exchange, put, read_all, relay_of, request
+from lib.serving import submit, wait_until
 from lib.topics import check_changing, check_many_subscriptions, check_topics, check_widest
 
 EVENTS = "/v1/endpoints/a/events"
@@ -371,6 +371,12 @@ def check_bodies(counts, address):
         ("no HTTP", b"hello\r\n\r\n", 400),
         ("101 headers", head(*(f"x-{it}: 1" for it in range(101))), 431),
         ("a head of 70 kB", head("x: " + "y" * 70_000), 431),
+        ("a target of 70 kB", head(line=f"GET /{'a' * 70_000} HTTP/1.1"), 414),
+        ("a coding that isn't chunks", head("transfer-encoding: gzip") + b"abcd", 400),
+        ("a coding after chunks", head("transfer-encoding: chunked, gzip") + chunked(b"abcd", 2), 400),
+        ("chunks by HTTP/1.0", head(coded, line=f"POST {EVENTS} HTTP/1.0") + chunked(b"abcd", 2), 400),
+        ("a path with <", head(line="GET /v1/endpoints/a<b HTTP/1.1"), 400),
+        ("a query with quotes", head(line='GET /v1/status?q="x" HTTP/1.1'), 400),
         ("a path that isn't ASCII", head(length(2), line="POST /v1/endpoints/\u00e9/events HTTP/1.1") + b"{}", 400),
         ("HEAD of a page", head(line="HEAD /v1/status HTTP/1.1"), 404),
         ("two ids", head("webhook-id: a", "webhook-id: b", length(2)) + b"{}", 400),
@@ -389,6 +395,28 @@ def check_bodies(counts, address):
     for name, sent in closed:
         counts.check(name, exchange(address, sent, shut=True), b"")
     counts.check("none of these is a record", records(address), before)
+    for name, status in (("a body of 8 MB", 413), ("a body of 8 MB by HTTP/1.0", 413)):
+        line = f"POST {EVENTS} HTTP/1.{0 if '1.0' in name else 1}"
+        counts.check(f"{name}: its sender reads why", status_while_sending(address, head(length(8_000_000), line=line) + b"y" * 8_000_000), status)
+
+
+def status_while_sending(address, sent):
+    """The status that a client reads which sends all before it reads, or None where its connection is reset."""
+    with connect(address) as sock, contextlib.suppress(ConnectionError):
+        sock.sendall(sent)
+        return Answer(b"".join(iter(lambda: sock.recv(65536), b""))).status
+    return None
+
+
+def check_end_beside_silence(counts, relayd, folder):
+    """Clients that connect and say nothing hold their threads for ten seconds. At its end a relay waits for these, but not for long after."""
+    threads = 64
+    with relay_of(relayd, f"{folder}/silence.db", "--intake", threads, "--requests", 1) as relay:
+        silent = [connect(relay.address) for _ in range(threads - 1)]
+        counts.check("beside silence: an answer", ask(relay.address, "GET", "/v1/status").status, 200)
+        counts.check("beside silence: it ends", relay.ended(30), 0)
+        for it in silent:
+            it.close()
 
 
 def ends_at_once(relayd, *words):
@@ -765,6 +793,7 @@ def main():
         check_large_purge(counts, relayd, folder)
         check_no_number_left(counts, relayd, folder)
         check_end(counts, relayd, folder)
+        check_end_beside_silence(counts, relayd, folder)
         check_exhausted(counts, relayd, folder)
         check_no_thread(counts, relayd, folder)
         check_made_ids(counts, relayd, folder)
