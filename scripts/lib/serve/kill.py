@@ -2,7 +2,7 @@
 
 16 submitters, subscribers of which some fail, a purge five times a second, and SIGKILL at a random
 moment. After each kill `relayd check` opens the file, and the relay is started again on it. Purges
-begin after half of the kills, at most ten: until then every event that was answered 202 is in the
+begin after half of the kills, at most five: until then every event that was answered 202 is in the
 file after each kill, under its number with its bytes. In the end each was delivered under its own
 webhook-id with its bytes and a signature that verifies, and nothing was posted under an id that
 nobody gave. It is in the file under its number with its bytes, unless a purge named a later moment
@@ -36,7 +36,7 @@ AGAIN = ("c", "again")
 # Seconds between purges, and how many seconds before them an event has ended that they take.
 PAUSE, AGE = 0.2, 1
 # So many kills at most come before the first purge.
-UNPURGED = 10
+UNPURGED = 5
 
 
 class Load:
