@@ -4,19 +4,22 @@ For each crate, the slowest first: the time from the first to the last of its pr
 its tests and of its mutants, the processor time that they took, and that of compiling and running
 it. Then the longest chain of crates that wait for one another, by the time of their proofs. It
 looks at the processes that the gate started, twice a second, and changes nothing of what the gate
-does. Its exit status is the gate's. All times are in seconds.
+does. Its exit status is the gate's. All times are in seconds. If it is ended by SIGTERM, it ends
+the gate and prints the times until then.
 
 A virtual machine may wait for processors that its host gives to others (steal, /proc/stat). If
 more than 1 of 100 of the time that was wanted went that way, it also prints how long the gate
 would have taken without: each half second counts by the share of processors that it was given.
-Usage: scripts/gate times
+Usage: scripts/gate times [--anew]: with --anew the gate takes nothing from earlier runs
 """
 import functools
 import os
 import pathlib
 import re
 import resource
+import signal
 import subprocess
+import sys
 import threading
 import time
 
@@ -165,7 +168,8 @@ def main():
     os.chdir(ROOT)
     times, host = Times(), Host()
     began = time.monotonic()
-    gate = subprocess.Popen(["rt", "ci"])
+    gate = subprocess.Popen(["rt", "ci", *sys.argv[1:]])
+    signal.signal(signal.SIGTERM, lambda *_: gate.terminate())
     ended = threading.Event()
 
     def watch():
